@@ -1,0 +1,10 @@
+pub mod Token
+pub mod Stored
+pub mod Reading
+pub mod Lexing
+pub mod Naming
+pub mod Stage
+pub mod Meaning
+pub mod Limits
+pub mod Refusing
+pub mod Laws
