@@ -11,12 +11,13 @@ use Rattle.std.specs.declared.result.Result.{Result}
 use Rattle.std.specs.declared.result.Result.the-variants.{Ok, Err}
 use Rattle.text.specs.declared.refusal.Refusal.{Refusal}
 use Rattle.text.specs.declared.refusal.Refusal.the-variants.{Unreadable, TooLarge}
-use Rattle.text.specs.Token.{Tokens, size}
-use Rattle.text.specs.Reading.{Fault, fine, at, Read, refused, tokens, unless, cannot-read, above-limit, build, read}
-use Rattle.text.specs.Lexing.{from}
-use Rattle.text.specs.Stage.{stage}
+use Rattle.tokens.specs.Token.{Tokens, size}
+use Rattle.lexer.specs.Reading.{Fault, fine, at, Read, refused, tokens, unless, cannot-read, above-limit, build, read}
+use Rattle.lexer.specs.Lexing.{from}
+use Rattle.words.specs.Stage.{stage}
 use Rattle.text.specs.Refusing.{passed-with, Checked}
-use Rattle.text.proofs.Counting.{counted}
+use Rattle.lexer.proofs.Counting.{counted}
+use Rattle.lexer.proofs.Ranges.{tests-passed}
 
 -- reading by what the checks found
 unfoldable pub judge : Fault → Bool → Fault → Tokens → Read
@@ -62,3 +63,20 @@ left-out false n e = refl
 pub let-in : (b : Bool) (n m : ℕ) → Some m ≡ cond b (Some n) None → b ≡ true
 let-in true n m e = refl
 let-in false n m e = let z : _≡_ {A = ℕ} 0 1 = cc in absurd (omega arith)
+
+-- a text that was accepted passed every check, and its tokens are as many as its pieces
+pub record Accepted (s : List ℕ) (n : ℕ) : Type 0 where
+  pub readable : cannot-read (from s 0) (length s) 0 ≡ fine
+  pub within : above-limit (from s 0) stage 0 0 [] ≡ fine
+  pub is : read stage s ≡ tokens (build (from s 0) [] [] [])
+  pub many : n ≡ length (from s 0)
+
+with-tokens : (n : ℕ) (r : Read) → Checked (Ok n) r → (ts : Tokens) × (r ≡ tokens ts) × (n ≡ size ts)
+with-tokens n (refused k p) h = absurd h
+with-tokens n (tokens ts) h = (ts, refl, h)
+
+pub accepted : (s : List ℕ) (n : ℕ) → Checked (Ok n) (read stage s) → Accepted s n
+accepted s n h =
+    let found = with-tokens n (read stage s) h in
+    let t = tests-passed (cannot-read (from s 0) (length s) 0) (above-limit (from s 0) stage 0 0 []) (ltb (length s) 16777216) (build (from s 0) [] [] []) (found .0) (found .1) in
+    record { readable = t .0; within = t .2; is = found .1 ∙ ap tokens (sym (t .3)); many = found .2 ∙ ap size (sym (t .3)) ∙ counted (from s 0) [] (length s) (t .0) }

@@ -1,13 +1,4 @@
-mod Counting
-mod Faults
-mod Judging
-mod Lexemes
-mod Limiting
-mod Naming
-mod Passing
-mod Ranges
-mod Scanning
-mod Spacing
-mod Spelling
-mod Writing
-pub mod Decoding
+pub mod Judging
+pub mod Limiting
+pub mod Passing
+pub mod Storing

@@ -11,14 +11,14 @@ use denote.Ref.{RefT, now}
 use Rattle.std.proofs.shelf.Tests.{lt-ltb, le-ltb}
 use Rattle.std.specs.declared.option.Option.{Option}
 use Rattle.std.specs.declared.option.Option.the-variants.{Some, None}
-use Rattle.text.specs.declared.lexer.Lexeme.{Lexeme}
-use Rattle.text.specs.declared.lexer.Lexeme.the-variants.{End, Open, Close, Number, Word, Quoted, Wrong}
-use Rattle.text.specs.Reading.{Piece, opens, closes, digits, word, slashed, wrong, Fault, fine, at, cannot-read, above-limit}
-use Rattle.text.specs.Meaning.{Stands, Plain, plain-limit, plain-names}
+use Rattle.lexer.specs.declared.Lexeme.{Lexeme}
+use Rattle.lexer.specs.declared.Lexeme.the-variants.{End, Open, Close, Number, Word, Quoted, Wrong}
+use Rattle.lexer.specs.Reading.{Piece, opens, closes, digits, word, slashed, wrong, Fault, fine, at, cannot-read, above-limit}
+use Rattle.words.specs.Meaning.{Stands, Plain, plain-limit, plain-names}
 use Rattle.text.specs.Limits.{place-in}
-use Rattle.text.specs.Stage.{stage}
-use Rattle.text.specs.Lexing.{from, Saw}
-use Rattle.text.proofs.Faults.{not-fine, failed}
+use Rattle.words.specs.Stage.{stage}
+use Rattle.lexer.specs.Lexing.{from, Saw}
+use Rattle.lexer.proofs.Faults.{not-fine, failed}
 
 -- where a piece begins
 abbrev pub piece-place : Piece → ℕ
@@ -128,3 +128,13 @@ at-the-end s i j (Number k v) h e = let z : _≡_ {A = ℕ} 0 1 = cc in absurd (
 at-the-end s i j (Word k w) h e = let z : _≡_ {A = ℕ} 0 1 = cc in absurd (omega arith)
 at-the-end s i j (Quoted k w) h e = let z : _≡_ {A = ℕ} 0 1 = cc in absurd (omega arith)
 at-the-end s i j (Wrong k) h e = let z : _≡_ {A = ℕ} 0 1 = cc in absurd (omega arith)
+
+-- only the end of the text has no place
+pub placed : (x : Lexeme) → (x ≡ End → ⊥) → (p : ℕ) × (place-in x ≡ Some p)
+placed End h = absurd (h refl)
+placed (Open k) h = (k, refl)
+placed (Close k) h = (k, refl)
+placed (Number k v) h = (k, refl)
+placed (Word k w) h = (k, refl)
+placed (Quoted k w) h = (k, refl)
+placed (Wrong k) h = (k, refl)

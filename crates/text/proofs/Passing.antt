@@ -9,10 +9,10 @@ use lib.Dec.{eqb}
 use lib.ListN.{length}
 use Rattle.std.proofs.shelf.Tests.{eq-eqb, ne-eqb}
 use denote.Ref.{RefT, now}
-use Rattle.text.specs.declared.lexer.Lexeme.{Lexeme}
-use Rattle.text.specs.declared.lexer.Lexeme.the-variants.{End, Open, Close, Number, Word, Quoted, Wrong}
-use Rattle.text.specs.Reading.{Piece, opens, closes, digits, word, slashed, Fault, fine, at, cannot-read}
-use Rattle.text.specs.Lexing.{from, Saw}
+use Rattle.lexer.specs.declared.Lexeme.{Lexeme}
+use Rattle.lexer.specs.declared.Lexeme.the-variants.{End, Open, Close, Number, Word, Quoted, Wrong}
+use Rattle.lexer.specs.Reading.{Piece, opens, closes, digits, word, slashed, Fault, fine, at, cannot-read}
+use Rattle.lexer.specs.Lexing.{from, Saw}
 
 -- past a number or a word the same braces are open
 pub record Plain (s : List ℕ) (i j : ℕ) : Type 0 where

@@ -1,22 +1,12 @@
--- Laws of reading, each a statement whose proof is owed where a function's contract names it. Assumes nothing: these are definitions.
+-- Laws of stored texts, each a statement whose proof is owed where a function's contract names it. Assumes nothing: these are definitions.
 use mathlib.Core.Path.{_≡_}
-use mathlib.Core.List.{List, _∷_, _++_}
+use mathlib.Core.List.{List}
 use mathlib.Core.Bool.{Bool}
-use Prim.Native.Nat.{ℕ, _+_, _<_}
-use lib.ListN.{length}
-use Rattle.text.specs.Token.{Tokens, all-written}
-use Rattle.text.specs.Reading.{Read, refused, tokens, read}
+use Prim.Native.Nat.{ℕ}
+use Rattle.tokens.specs.Token.{Tokens}
+use Rattle.tokens.specs.Stored.{all-stored, decode}
+use Rattle.lexer.specs.Reading.{tokens, read}
 
--- a text with one more space where there is one reads the same: the same tokens, or refused by the same number
-unfoldable pub same-read : Read → Read → Type 0
-same-read (refused k p) (refused j q) = j ≡ k
-same-read (refused k p) (tokens ts) = ⊥
-same-read (tokens ts) (refused k p) = ⊥
-same-read (tokens ts) (tokens us) = ts ≡ us
-
-abbrev pub Spaces-free : Type 0
-Spaces-free = (can : ℕ → Bool) (xs ys : List ℕ) → length xs + length ys < 16777214 → same-read (read can (xs ++ (32 ∷ ys))) (read can (xs ++ (32 ∷ (32 ∷ ys))))
-
--- the written form of tokens is that of no other tokens
-abbrev pub Reads-back : Type 0
-Reads-back = (a b : Tokens) → all-written a ≡ all-written b → a ≡ b
+-- and the tokens of every text that is not refused are in range
+abbrev pub Stored-text-reads-back : Type 0
+Stored-text-reads-back = (can : ℕ → Bool) (bs : List ℕ) (ts : Tokens) → read can bs ≡ tokens ts → decode (all-stored ts) ≡ ts

@@ -1,10 +1,4 @@
-pub mod Token
-pub mod Stored
-pub mod Reading
-pub mod Lexing
-pub mod Naming
-pub mod Stage
-pub mod Meaning
+pub mod Laws
 pub mod Limits
 pub mod Refusing
-pub mod Laws
+pub mod Storing

@@ -5,13 +5,13 @@ use Prim.Native.Nat.{ℕ, _+_, _≤_}
 use denote.Ref.{RefT}
 use Rattle.std.specs.declared.option.Option.{Option}
 use Rattle.std.specs.declared.option.Option.the-variants.{Some, None}
-use Rattle.text.specs.declared.lexer.Lexeme.{Lexeme}
-use Rattle.text.specs.declared.lexer.Lexeme.the-variants.{End, Open, Close, Number, Word, Quoted, Wrong}
+use Rattle.lexer.specs.declared.Lexeme.{Lexeme}
+use Rattle.lexer.specs.declared.Lexeme.the-variants.{End, Open, Close, Number, Word, Quoted, Wrong}
 use Rattle.text.specs.declared.check.Counts.{Counts}
-use Rattle.text.specs.Reading.{Piece, Fault, at, above-limit}
-use Rattle.text.specs.Naming.{known-in}
-use Rattle.text.specs.Meaning.{Stands}
-use Rattle.text.specs.Stage.{stage}
+use Rattle.lexer.specs.Reading.{Piece, Fault, at, above-limit}
+use Rattle.words.specs.Naming.{known-in}
+use Rattle.words.specs.Meaning.{Stands}
+use Rattle.words.specs.Stage.{stage}
 
 -- where a lexeme begins; the end of the text is none
 abbrev pub place-in : Lexeme → Option ℕ

@@ -5,8 +5,8 @@ use Rattle.std.specs.declared.result.Result.{Result}
 use Rattle.std.specs.declared.result.Result.the-variants.{Ok, Err}
 use Rattle.text.specs.declared.refusal.Refusal.{Refusal}
 use Rattle.text.specs.declared.refusal.Refusal.the-variants.{Unreadable, TooLarge, TooLittleMemory}
-use Rattle.text.specs.Token.{size}
-use Rattle.text.specs.Reading.{Fault, fine, at, Read, refused, tokens}
+use Rattle.tokens.specs.Token.{size}
+use Rattle.lexer.specs.Reading.{Fault, fine, at, Read, refused, tokens}
 
 -- the number by which a job is turned away, and the place that is told with it
 abbrev pub refusal-number : Refusal → ℕ

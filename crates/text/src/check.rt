@@ -7,16 +7,16 @@ ghost use lib.Dec.{ltb};
 ghost use Rattle.std.specs.Options.{Cases};
 ghost use Rattle.std.specs.declared.option.Option.the-variants.{Some, None};
 ghost use Rattle.text.specs.declared.refusal.Refusal.the-variants.{Unreadable, TooLarge};
-ghost use Rattle.text.specs.Reading.{cannot-read, above-limit, fine, read};
-ghost use Rattle.text.specs.Lexing.{from};
-ghost use Rattle.text.specs.Stage.{stage};
+ghost use Rattle.lexer.specs.Reading.{cannot-read, above-limit, fine, read};
+ghost use Rattle.lexer.specs.Lexing.{from};
+ghost use Rattle.words.specs.Stage.{stage};
 ghost use Rattle.text.specs.Limits.{Admits, place-in};
 ghost use Rattle.text.specs.Refusing.{passed-with, Checked};
-use super::lexer::Lexeme;
-use super::lexer::lexeme_at;
-use super::meaning::plain_token;
-use super::names::NAMES;
 use super::refusal::Refusal;
+use lexer::Lexeme;
+use lexer::lexeme_at;
+use words::meaning::plain_token;
+use words::names::NAMES;
 
 // How many tokens a text may have, braces counted.
 pub const TOKENS: usize = 65536;

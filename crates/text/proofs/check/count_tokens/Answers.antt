@@ -5,11 +5,11 @@ use lib.Dec.{ltb}
 use Rattle.std.specs.declared.result.Result.the-variants.{Err}
 use Rattle.text.specs.declared.refusal.Refusal.the-variants.{Unreadable, TooLarge}
 use lib.ListN.{length}
-use Rattle.text.specs.Reading.{cannot-read, above-limit, build, read, fine, at}
-use Rattle.text.specs.Lexing.{from}
-use Rattle.text.specs.Stage.{stage}
+use Rattle.lexer.specs.Reading.{cannot-read, above-limit, build, read, fine, at}
+use Rattle.lexer.specs.Lexing.{from}
+use Rattle.words.specs.Stage.{stage}
 use Rattle.text.specs.Refusing.{passed-with, Checked}
-use Rattle.text.proofs.Counting.{counted}
+use Rattle.lexer.proofs.Counting.{counted}
 use Rattle.text.proofs.Judging.{judge, unreadable, too-long, limited, found-none, found-there, judged-by, left-out, let-in}
 use Rattle.text.proofs.check.count_tokens.Needs as need
 

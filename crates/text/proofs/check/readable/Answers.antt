@@ -4,8 +4,8 @@ use Prim.Native.Nat.{_+_, _-_}
 use native.Mathlib.Omega.{arith}
 use lib.ListN.{length}
 use Rattle.text.specs.declared.refusal.Refusal.the-variants.{Unreadable}
-use Rattle.text.specs.Reading.{cannot-read, at}
-use Rattle.text.specs.Lexing.{from, Saw}
+use Rattle.lexer.specs.Reading.{cannot-read, at}
+use Rattle.lexer.specs.Lexing.{from, Saw}
 use Rattle.text.specs.Refusing.{passed-with}
 use Rattle.text.proofs.Passing.{Plain, past-number, past-word, past-quoted, past-open, past-close, closes-nothing, ends-closed, ends-open}
 use Rattle.text.proofs.check.readable.Needs as need

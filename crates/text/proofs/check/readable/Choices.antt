@@ -1,8 +1,8 @@
 use mathlib.Core.Path.{_≡_}
 use Prim.Native.Nat.{_-_, _≤_}
 use lib.ListN.{length}
-use Rattle.text.specs.Reading.{cannot-read}
-use Rattle.text.specs.Lexing.{from}
+use Rattle.lexer.specs.Reading.{cannot-read}
+use Rattle.lexer.specs.Lexing.{from}
 use Rattle.text.proofs.check.readable.Given as given
 
 -- what is left decides it, with the braces that are open

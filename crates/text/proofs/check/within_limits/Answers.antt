@@ -5,8 +5,8 @@ use native.Mathlib.Omega.{arith}
 use lib.ListN.{length}
 use Rattle.std.specs.declared.result.Result.the-variants.{Ok}
 use Rattle.text.specs.declared.refusal.Refusal.the-variants.{TooLarge}
-use Rattle.text.specs.Reading.{above-limit, fine}
-use Rattle.text.specs.Lexing.{from}
+use Rattle.lexer.specs.Reading.{above-limit, fine}
+use Rattle.lexer.specs.Lexing.{from}
 use Rattle.text.specs.Limits.{limits}
 use Rattle.text.specs.Refusing.{passed-with}
 use Rattle.text.proofs.Limiting.{next-piece, at-the-end}

@@ -2,10 +2,10 @@ use mathlib.Core.Path.{_≡_}
 use mathlib.Core.List.{[]}
 use Prim.Native.Nat.{ℕ, _+_, _-_, _≤_}
 use lib.ListN.{length}
-use Rattle.text.specs.Reading.{cannot-read, above-limit, fine}
-use Rattle.text.specs.Lexing.{from}
+use Rattle.lexer.specs.Reading.{cannot-read, above-limit, fine}
+use Rattle.lexer.specs.Lexing.{from}
 use Rattle.text.specs.Limits.{limits}
-use Rattle.text.specs.Stage.{stage}
+use Rattle.words.specs.Stage.{stage}
 use Rattle.text.proofs.check.within_limits.Given as given
 
 -- what is left can be read, and decides with the counts so far
