@@ -11,32 +11,32 @@ use Rattle.tokens.specs.Token.{Token, number, quoted, Tokens, none, more, body,
 use Rattle.lexer.specs.Reading.{Piece, opens, closes, digits, word, slashed, wrong, between, pieces, Fault, fine, at, cannot-read, above-limit, word-limit, Found, operator, no-operator, as-operator, words-after, with-word, place-of, as-token, build, refused, tokens, unless, read}
 use Rattle.lexer.proofs.Faults.{passed}
 
-abbrev pub Row-in-range : List Token → Type 0
-Row-in-range [] = Unit {0}
-Row-in-range (t ∷ ts) = In-range t × Row-in-range ts
+abbrev pub Row-in-range : (ℕ → Bool) → List Token → Type 0
+Row-in-range can [] = Unit {0}
+Row-in-range can (t ∷ ts) = In-range can t × Row-in-range can ts
 
-abbrev pub Rows-in-range : List (List Token) → Type 0
-Rows-in-range [] = Unit {0}
-Rows-in-range (r ∷ rs) = Row-in-range r × Rows-in-range rs
+abbrev pub Rows-in-range : (ℕ → Bool) → List (List Token) → Type 0
+Rows-in-range can [] = Unit {0}
+Rows-in-range can (r ∷ rs) = Row-in-range can r × Rows-in-range can rs
 
-pub turned-in-range : (xs : List Token) (ts : Tokens) → Row-in-range xs → All-in-range ts → All-in-range (turned xs ts)
+pub turned-in-range : (can : ℕ → Bool) (xs : List Token) (ts : Tokens) → Row-in-range can xs → All-in-range can ts → All-in-range can (turned xs ts)
 unfolding turned
-turned-in-range [] ts r s = s
-turned-in-range (x ∷ xs) ts r s = turned-in-range xs (more x ts) (r .1) (r .0, s)
+turned-in-range can [] ts r s = s
+turned-in-range can (x ∷ xs) ts r s = turned-in-range can xs (more x ts) (r .1) (r .0, s)
 
-token-in-range : (f : Found) (can : ℕ → Bool) (ws : List (List ℕ)) (w : List ℕ) → word-limit f can ws w ≡ true → In-range (as-token f ws w)
+token-in-range : (f : Found) (can : ℕ → Bool) (ws : List (List ℕ)) (w : List ℕ) → word-limit f can ws w ≡ true → In-range can (as-token f ws w)
 unfolding as-token word-limit
-token-in-range (operator o) can ws w e = tt
+token-in-range (operator o) can ws w e = e
 token-in-range no-operator can ws w e = ltb-true (place-of ws w) 256 e
 
-pub build-in-range : (ps : List Piece) (can : ℕ → Bool) (count deep : ℕ) (ws : List (List ℕ)) (cur : List Token) (outer : List (List Token)) → above-limit ps can count deep ws ≡ fine → Row-in-range cur → Rows-in-range outer → All-in-range (build ps ws cur outer)
+pub build-in-range : (ps : List Piece) (can : ℕ → Bool) (count deep : ℕ) (ws : List (List ℕ)) (cur : List Token) (outer : List (List Token)) → above-limit ps can count deep ws ≡ fine → Row-in-range can cur → Rows-in-range can outer → All-in-range can (build ps ws cur outer)
 unfolding above-limit build
-build-in-range [] can count deep ws cur outer e r s = turned-in-range cur none r tt
+build-in-range [] can count deep ws cur outer e r s = turned-in-range can cur none r tt
 build-in-range (wrong n ∷ ps) can count deep ws cur outer e r s = build-in-range ps can count deep ws cur outer e r s
 build-in-range (opens n ∷ ps) can count deep ws cur outer e r s = build-in-range ps can (suc count) (suc deep) ws [] (cur ∷ outer) (passed _ _ n e .1) tt (r, s)
 build-in-range (closes n ∷ ps) can count deep ws cur [] e r s = build-in-range ps can (suc count) (deep - 1) ws cur [] (passed _ _ n e .1) r tt
 build-in-range (closes n ∷ ps) can count deep ws cur (o ∷ os) e r s =
-    build-in-range ps can (suc count) (deep - 1) ws (body (turned cur none) ∷ o) os (passed _ _ n e .1) (turned-in-range cur none r tt, s .0) (s .1)
+    build-in-range ps can (suc count) (deep - 1) ws (body (turned cur none) ∷ o) os (passed _ _ n e .1) (turned-in-range can cur none r tt, s .0) (s .1)
 build-in-range (digits n v ∷ ps) can count deep ws cur outer e r s =
     let p = passed _ _ n e in
     build-in-range ps can (suc count) deep ws (number v ∷ cur) outer (p .1) (ltb-true v 2147483648 (and-parts _ _ (p .0) .1), r) s
@@ -56,8 +56,8 @@ tests-passed fine (at n) true ts us e = let z : _≡_ {A = ℕ} 0 1 = cc in absu
 tests-passed fine (at n) false ts us e = let z : _≡_ {A = ℕ} 0 1 = cc in absurd (omega arith)
 tests-passed (at n) g b ts us e = let z : _≡_ {A = ℕ} 0 1 = cc in absurd (omega arith)
 
-pub read-in-range : (can : ℕ → Bool) (bs : List ℕ) (ts : Tokens) → read can bs ≡ tokens ts → All-in-range ts
+pub read-in-range : (can : ℕ → Bool) (bs : List ℕ) (ts : Tokens) → read can bs ≡ tokens ts → All-in-range can ts
 read-in-range can bs ts e =
     let ps = pieces bs 0 between in
     let p = tests-passed (cannot-read ps (length bs) 0) (above-limit ps can 0 0 []) (ltb (length bs) 16777216) (build ps [] [] []) ts e in
-    subst All-in-range (p .3) (build-in-range ps can 0 0 [] [] [] (p .2) tt tt)
+    subst (All-in-range can) (p .3) (build-in-range ps can 0 0 [] [] [] (p .2) tt tt)

@@ -1,4 +1,6 @@
 // Reads a job from a file or standard input, and says how many tokens it has, or by which number and at which place it is refused.
+ghost use Prim.Native.Nat.{_≤_};
+ghost use Rattle.std.specs.Vec.{made};
 use std::alloc::Global;
 use std::env;
 use std::error::AnyError;
@@ -23,6 +25,8 @@ struct Options {
     height: u32,
     file: String,
     help: bool,
+    ghost wide: { (1 ≤ width) × (width ≤ 8192) },
+    ghost tall: { (1 ≤ height) × (height ≤ 65535) },
 }
 
 // What the next word of the command line is.
@@ -35,7 +39,9 @@ enum Expected {
 }
 
 // A number that stands behind an option, from 1 to its limit.
-fn number(heap: Global, option: &str, text: &str, limit: u32) -> Result<u32, AnyError> {
+fn number(heap: Global, option: &str, text: &str, limit: u32) -> Result<u32, AnyError>
+    ensures { λ r. ⌜ made r (λ n. (1 ≤ n) × (n ≤ limit)) ⌝ }
+{
     if let Ok(n) = text.parse::<u32>() {
         if n >= 1 && n <= limit {
             return Ok(n);

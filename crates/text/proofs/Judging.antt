@@ -14,7 +14,7 @@ use Rattle.text.specs.declared.refusal.Refusal.the-variants.{Unreadable, TooLa
 use Rattle.tokens.specs.Token.{Tokens, size}
 use Rattle.lexer.specs.Reading.{Fault, fine, at, Read, refused, tokens, unless, cannot-read, above-limit, build, read}
 use Rattle.lexer.specs.Lexing.{from}
-use Rattle.words.specs.Stage.{stage}
+use Rattle.tokens.specs.Stage.{stage}
 use Rattle.text.specs.Refusing.{passed-with, Checked}
 use Rattle.lexer.proofs.Counting.{counted}
 use Rattle.lexer.proofs.Ranges.{tests-passed}

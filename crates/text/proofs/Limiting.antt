@@ -16,7 +16,7 @@ use Rattle.lexer.specs.declared.Lexeme.the-variants.{End, Open, Close, Number, 
 use Rattle.lexer.specs.Reading.{Piece, opens, closes, digits, word, slashed, wrong, Fault, fine, at, cannot-read, above-limit}
 use Rattle.words.specs.Meaning.{Stands, Plain, plain-limit, plain-names}
 use Rattle.text.specs.Limits.{place-in}
-use Rattle.words.specs.Stage.{stage}
+use Rattle.tokens.specs.Stage.{stage}
 use Rattle.lexer.specs.Lexing.{from, Saw}
 use Rattle.lexer.proofs.Faults.{not-fine, failed}
 

@@ -14,7 +14,7 @@ use Rattle.std.proofs.shelf.Ways.{tells}
 use Rattle.tokens.specs.Token.{Token, number, does, name, quoted, body, Tokens, none, more, turned}
 use Rattle.lexer.specs.Reading.{Piece, opens, closes, digits, word, slashed, wrong, fine, at, cannot-read, above-limit, build, Found, operator, no-operator, as-operator, as-token}
 use Rattle.tokens.specs.declared.Token as code-token
-use Rattle.words.specs.Stage.{stage}
+use Rattle.tokens.specs.Stage.{stage}
 use Rattle.tokens.specs.Stored.{stored, all-stored, token-of}
 use Rattle.words.specs.Meaning.{Plain, plain-limit, plain-token, plain-names}
 use Rattle.text.specs.Storing.{begun-with, Ready, row-end, Stored-row}

@@ -11,7 +11,7 @@ use Rattle.text.specs.declared.check.Counts.{Counts}
 use Rattle.lexer.specs.Reading.{Piece, Fault, at, above-limit}
 use Rattle.words.specs.Naming.{known-in}
 use Rattle.words.specs.Meaning.{Stands}
-use Rattle.words.specs.Stage.{stage}
+use Rattle.tokens.specs.Stage.{stage}
 
 -- where a lexeme begins; the end of the text is none
 abbrev pub place-in : Lexeme → Option ℕ

@@ -11,7 +11,7 @@ use Rattle.text.specs.declared.refusal.Refusal.{Refusal}
 use Rattle.tokens.specs.Token.{Token, body, Tokens, none, number-of, size, turned}
 use Rattle.lexer.specs.Reading.{Piece, fine, cannot-read, above-limit, build, Read, refused, tokens}
 use Rattle.text.specs.Refusing.{refusal-number, refusal-place}
-use Rattle.words.specs.Stage.{stage}
+use Rattle.tokens.specs.Stage.{stage}
 use Rattle.tokens.specs.Stored.{operator-of, all-stored}
 
 -- the two words that a token begins with: its kind and its number, or how many words a body has

@@ -9,7 +9,7 @@ ghost use Rattle.std.specs.declared.option.Option.the-variants.{Some, None};
 ghost use Rattle.text.specs.declared.refusal.Refusal.the-variants.{Unreadable, TooLarge};
 ghost use Rattle.lexer.specs.Reading.{cannot-read, above-limit, fine, read};
 ghost use Rattle.lexer.specs.Lexing.{from};
-ghost use Rattle.words.specs.Stage.{stage};
+ghost use Rattle.tokens.specs.Stage.{stage};
 ghost use Rattle.text.specs.Limits.{Admits, place-in};
 ghost use Rattle.text.specs.Refusing.{passed-with, Checked};
 use super::refusal::Refusal;

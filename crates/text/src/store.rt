@@ -5,7 +5,7 @@ ghost use lib.ListN.{length, set, drop};
 ghost use Rattle.lexer.specs.Reading.{build, read};
 ghost use Rattle.lexer.specs.Lexing.{from};
 ghost use Rattle.words.specs.Naming.{known-in};
-ghost use Rattle.words.specs.Stage.{stage};
+ghost use Rattle.tokens.specs.Stage.{stage};
 ghost use Rattle.tokens.specs.Stored.{all-stored};
 ghost use Rattle.text.specs.Storing.{begun-with, Ready, Stored-row, Stored-as};
 use super::check::count_tokens;

@@ -110,23 +110,23 @@ two-more ws = le-ltb _ _ (omega arith)
 mutual
   unfolding stored all-stored head-of
 
-  pub read-back : (ts : Tokens) → All-in-range ts → decode (all-stored ts) ≡ ts
-  read-back none r = decode-short [] (omega arith)
-  read-back (more t ts) r = read-token t (all-stored ts) (r .0) ∙ ap (more t) (read-back ts (r .1))
+  pub read-back : (can : ℕ → Bool) (ts : Tokens) → All-in-range can ts → decode (all-stored ts) ≡ ts
+  read-back can none r = decode-short [] (omega arith)
+  read-back can (more t ts) r = read-token can t (all-stored ts) (r .0) ∙ ap (more t) (read-back can ts (r .1))
 
-  read-token : (t : Token) (rest : List ℕ) → In-range t → decode (stored t ++ rest) ≡ more t (decode rest)
-  read-token (number v) rest r = let t = two-more rest in decode-step (0 ∷ (v ∷ rest)) ∙ simp t (ap (λ z. more (number z) (decode rest)) (mod-eq-of-lt r))
-  read-token (does k) rest r = let t = two-more rest in let o = operator-back k in decode-step (1 ∷ (number-of k ∷ rest)) ∙ simp (t, o)
-  read-token (name v) rest r = let t = two-more rest in decode-step (2 ∷ (v ∷ rest)) ∙ simp t (ap (λ z. more (name z) (decode rest)) (mod-eq-of-lt r))
-  read-token (quoted v) rest r = let t = two-more rest in decode-step (3 ∷ (v ∷ rest)) ∙ simp t (ap (λ z. more (quoted z) (decode rest)) (mod-eq-of-lt r))
-  read-token (body bs) rest r =
+  read-token : (can : ℕ → Bool) (t : Token) (rest : List ℕ) → In-range can t → decode (stored t ++ rest) ≡ more t (decode rest)
+  read-token can (number v) rest r = let t = two-more rest in decode-step (0 ∷ (v ∷ rest)) ∙ simp t (ap (λ z. more (number z) (decode rest)) (mod-eq-of-lt r))
+  read-token can (does k) rest r = let t = two-more rest in let o = operator-back k in decode-step (1 ∷ (number-of k ∷ rest)) ∙ simp (t, o)
+  read-token can (name v) rest r = let t = two-more rest in decode-step (2 ∷ (v ∷ rest)) ∙ simp t (ap (λ z. more (name z) (decode rest)) (mod-eq-of-lt r))
+  read-token can (quoted v) rest r = let t = two-more rest in decode-step (3 ∷ (v ∷ rest)) ∙ simp t (ap (λ z. more (quoted z) (decode rest)) (mod-eq-of-lt r))
+  read-token can (body bs) rest r =
       let t = two-more (all-stored bs ++ rest) in
       let a = take-at (all-stored bs) rest (length (all-stored bs)) refl in
       let b = drop-at (all-stored bs) rest (length (all-stored bs)) refl in
-      decode-step (4 ∷ (length (all-stored bs) ∷ (all-stored bs ++ rest))) ∙ simp (t, a, b) (ap (λ z. more (body z) (decode rest)) (read-back bs r))
+      decode-step (4 ∷ (length (all-stored bs) ∷ (all-stored bs ++ rest))) ∙ simp (t, a, b) (ap (λ z. more (body z) (decode rest)) (read-back can bs r))
 
 pub stored-reads-back : Stored-reads-back
-stored-reads-back ts r = read-back ts r
+stored-reads-back can ts r = read-back can ts r
 
 -- the next token as the code has it, from what stands first
 followed-by : (t : code-token.Token) (rest : List ℕ) → by-head decode (head-with t rest) ≡ more (token-of t) (decode rest)

@@ -1,3 +1,4 @@
 pub mod Laws
+pub mod Stage
 pub mod Stored
 pub mod Token

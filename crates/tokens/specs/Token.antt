@@ -1,4 +1,6 @@
 -- Tokens: numbers, operators, names, quoted names, and bodies, which are rows of tokens. Cited by Reading, Stored and the machine. Assumes nothing: these are definitions.
+use mathlib.Core.Path.{_≡_}
+use mathlib.Core.Bool.{Bool, true}
 use mathlib.Core.List.{List, [], _∷_, _++_}
 use Prim.Native.Nat.{ℕ, _+_, _<_}
 
@@ -92,15 +94,15 @@ abbrev mutual
   size none = 0
   size (more t ts) = size-of t + size ts
 
--- what a text within the limits can hold
+-- what a text within the limits can hold, at the operators that may be done
 abbrev mutual
-  pub In-range : Token → Type 0
-  In-range (number n) = n < 2147483648
-  In-range (does k) = Unit {0}
-  In-range (name k) = k < 256
-  In-range (quoted k) = k < 256
-  In-range (body ts) = All-in-range ts
+  pub In-range : (ℕ → Bool) → Token → Type 0
+  In-range can (number n) = n < 2147483648
+  In-range can (does k) = can (number-of k) ≡ true
+  In-range can (name k) = k < 256
+  In-range can (quoted k) = k < 256
+  In-range can (body ts) = All-in-range can ts
 
-  pub All-in-range : Tokens → Type 0
-  All-in-range none = Unit {0}
-  All-in-range (more t ts) = In-range t × All-in-range ts
+  pub All-in-range : (ℕ → Bool) → Tokens → Type 0
+  All-in-range can none = Unit {0}
+  All-in-range can (more t ts) = In-range can t × All-in-range can ts

@@ -10,7 +10,7 @@ use Rattle.std.specs.declared.option.Option.the-variants.{Some, None}
 use Rattle.tokens.specs.Token.{Operator}
 use Rattle.lexer.specs.Reading.{Found, operator, no-operator, same-word, as-operator}
 use Rattle.tokens.specs.Stored.{operator-at, operator-of, known}
-use Rattle.words.specs.Stage.{spelled, found-as}
+use Rattle.words.specs.Spelling.{spelled, found-as}
 use Rattle.tokens.specs.declared.Operator as code
 
 abbrev pub found-at : Option Operator → Found

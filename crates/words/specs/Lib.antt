@@ -1,3 +1,3 @@
 pub mod Meaning
 pub mod Naming
-pub mod Stage
+pub mod Spelling

@@ -14,7 +14,7 @@ use Rattle.tokens.specs.Token.{Token, number, quoted}
 use Rattle.lexer.specs.Reading.{Piece, opens, closes, digits, word, slashed, wrong, as-operator, as-token, word-limit, words-after, place-of, with-word}
 use Rattle.tokens.specs.Stored.{token-of}
 use Rattle.words.specs.Naming.{known-in}
-use Rattle.words.specs.Stage.{stage}
+use Rattle.tokens.specs.Stage.{stage}
 
 -- the piece that a lexeme stands for; digits count up to a cap
 abbrev pub Stands : Lexeme → Piece → Type 0

@@ -4,7 +4,7 @@ use mathlib.Core.Bool.{true, false, cond}
 use Prim.Native.Nat.{ℕ, _+_, _-_}
 use native.Mathlib.Omega.{arith}
 use Rattle.lexer.specs.Reading.{opens, closes, at, above-limit}
-use Rattle.words.specs.Stage.{stage}
+use Rattle.tokens.specs.Stage.{stage}
 use Rattle.words.specs.Naming.{known-in}
 use Rattle.words.specs.Meaning.{Stands, plain-limit, plain-names}
 use Rattle.text.proofs.Limiting.{piece-place, same-place, not-wrong, too-many, too-deep, opened, closed, plain-step, plain-of}

@@ -7,7 +7,7 @@ use Rattle.text.specs.declared.refusal.Refusal.the-variants.{Unreadable, TooLa
 use lib.ListN.{length}
 use Rattle.lexer.specs.Reading.{cannot-read, above-limit, build, read, fine, at}
 use Rattle.lexer.specs.Lexing.{from}
-use Rattle.words.specs.Stage.{stage}
+use Rattle.tokens.specs.Stage.{stage}
 use Rattle.text.specs.Refusing.{passed-with, Checked}
 use Rattle.lexer.proofs.Counting.{counted}
 use Rattle.text.proofs.Judging.{judge, unreadable, too-long, limited, found-none, found-there, judged-by, left-out, let-in}

@@ -5,7 +5,7 @@ use lib.ListN.{length}
 use Rattle.lexer.specs.Reading.{cannot-read, above-limit, fine}
 use Rattle.lexer.specs.Lexing.{from}
 use Rattle.text.specs.Limits.{limits}
-use Rattle.words.specs.Stage.{stage}
+use Rattle.tokens.specs.Stage.{stage}
 use Rattle.text.proofs.check.within_limits.Given as given
 
 -- what is left can be read, and decides with the counts so far

@@ -4,7 +4,7 @@ use Rattle.std.proofs.shelf.Tests.{lt-ltb}
 use Rattle.tokens.specs.Token.{name}
 use Rattle.lexer.specs.Reading.{as-operator, as-token, word-limit, words-after, place-of}
 use Rattle.words.specs.Naming.{known-in}
-use Rattle.words.specs.Stage.{stage}
+use Rattle.tokens.specs.Stage.{stage}
 use Rattle.words.proofs.meaning.word_token.Needs as need
 
 pub returns-then-in-stage : need.returns-then-in-stage

@@ -3,7 +3,7 @@ use mathlib.Core.Bool.{true, false}
 use native.Mathlib.Omega.{arith}
 use Prim.Native.Nat.{ℕ, _-_}
 use Rattle.lexer.specs.Reading.{same-word}
-use Rattle.words.specs.Stage.{spelled}
+use Rattle.words.specs.Spelling.{spelled}
 use Rattle.words.proofs.Spelling.{named-from, found-at, all-named, named-more, found-known}
 use Rattle.words.proofs.operators.operator_named.Needs as need
 

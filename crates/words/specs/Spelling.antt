@@ -1,4 +1,4 @@
--- Which operators this stage of the printer can do: reading refuses a text with any other. Cited by the contracts of reading. Assumes nothing: these are definitions.
+-- How operators are spelled, and what the code answers of a word. Cited by the contracts of operators. Assumes nothing: these are definitions.
 use mathlib.Core.Bool.{Bool, _&&_, _||_, cond}
 use mathlib.Core.List.{List, [], _∷_}
 use Prim.Native.Nat.{ℕ, zero, suc}
@@ -8,14 +8,6 @@ use Rattle.std.specs.declared.option.Option.the-variants.{Some, None}
 use Rattle.tokens.specs.declared.Operator as code
 use Rattle.lexer.specs.Reading.{Found, operator, no-operator, same-word}
 use Rattle.tokens.specs.Stored.{operator-of, operator-at}
-
--- by its number: moves, lines, fills; greys; shows
-abbrev pub thin : ℕ → Bool
-thin k = (leb 11 k && leb k 13) || (eqb k 15 || eqb k 20)
-
--- the stage that is proved now; a wider one changes this line and the code's list
-abbrev pub stage : ℕ → Bool
-stage k = thin k
 
 -- the code's answer to which operator a word is
 abbrev pub found-as : Option code.Operator → Found
