@@ -1,0 +1,4 @@
+pub mod BitLaws
+pub mod RowLaws
+pub mod PartLaws
+mod PaintLaws

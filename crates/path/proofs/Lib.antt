@@ -1,0 +1,2 @@
+pub mod StoredLaws
+mod BuildLaws

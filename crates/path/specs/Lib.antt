@@ -1,0 +1,4 @@
+pub mod Path
+pub mod Stored
+pub mod Points
+pub mod Building

@@ -1,0 +1,7 @@
+mod BandLaws
+mod CrossLaws
+mod EdgeLaws
+mod LevelLaws
+mod Moving
+mod Painting
+mod Rings

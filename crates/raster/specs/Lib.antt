@@ -1,0 +1,4 @@
+pub mod Coverage
+pub mod Laws
+pub mod Levels
+pub mod Thing
