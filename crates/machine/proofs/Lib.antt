@@ -1,0 +1,8 @@
+mod Beginning
+mod Drawing
+mod Running
+mod Showing
+pub mod Staged
+mod Standing
+mod Stepping
+mod Tops

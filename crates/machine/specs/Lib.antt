@@ -1,0 +1,4 @@
+pub mod Machine
+pub mod Stage
+pub mod Abstraction
+pub mod Laws
