@@ -1,10 +1,10 @@
 -- The machine before its first step.
-use mathlib.Core.Path.{_≡_, refl, sym, ap, _∙_}
+use mathlib.Core.Path.{_≡_, refl, ap, _∙_}
 use mathlib.Core.List.{List, [], _∷_, reverse, map}
 use Prim.Native.Nat.{ℕ, _<_}
 use native.Mathlib.Omega.{arith}
 use lib.ListN.{length, set, take}
-use Rattle.tokens.specs.Token.{Tokens, none}
+use Rattle.tokens.specs.Token.{none}
 use Rattle.tokens.specs.Stored.{decode, decode-in}
 use Rattle.path.specs.Path.{Ring}
 use Rattle.path.specs.Stored.{paths-in, pieces, pieces-by}

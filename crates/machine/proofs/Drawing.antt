@@ -1,16 +1,16 @@
 -- What the operators that draw and paint come to, case by case.
 use mathlib.Core.Path.{_≡_, refl, sym, ap, _∙_}
-use mathlib.Core.Bool.{Bool, true, false, cond}
+use mathlib.Core.Bool.{true, false}
 use mathlib.Core.List.{List, [], _∷_, _++_}
-use Prim.Native.Nat.{ℕ, _+_, _<_, _≤_}
+use Prim.Native.Nat.{ℕ, _+_}
 use native.Mathlib.Omega.{arith}
 use lib.Dec.{ltb}
 use lib.ListN.{length}
-use Rattle.std.proofs.shelf.Tests.{cond-true, cond-false, ltb-true, ltb-false, lt-ltb, le-ltb}
-use Rattle.path.specs.Path.{Point, Ring, Paint, points, finished}
+use Rattle.std.proofs.shelf.Tests.{cond-true, cond-false, ltb-true, ltb-false}
+use Rattle.path.specs.Path.{Point, Ring, points, finished}
 use Rattle.path.specs.Building.{rings-of, ring-of}
 use Rattle.path.specs.declared.builder.Path.{Path}
-use Rattle.machine.specs.Machine.{State, Value, Manner, Went, on, ends, with-path, with-stack, with-manner, placed, near-enough, go-to, line-to}
+use Rattle.machine.specs.Machine.{State, Value, Went, on, ends, with-path, with-stack, placed, near-enough, go-to, line-to}
 use Rattle.machine.specs.Abstraction.{Past, state}
 use Rattle.machine.specs.declared.machine.Machine.{Machine}
 

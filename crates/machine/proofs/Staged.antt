@@ -9,7 +9,7 @@ use Rattle.std.proofs.shelf.Tests.{cond-true}
 use Rattle.path.specs.Path.{Ring, points}
 use Rattle.tokens.specs.Token.{Token, number, does, name, quoted, body, Tokens, none, more, Operator, number-of, adds, takes, multiplies, divides, is-less, copies, drops, swaps, defines, repeats, when, moves, lines, fills, clips-by, greys, shifts, scales, keeps, back, shows, In-range, All-in-range}
 use Rattle.tokens.specs.Stage.{stage}
-use Rattle.machine.specs.Machine.{State, Frame, Binding, Value, amount, code, label, Went, on, ends, with-frames, push, with-one, with-two, placed, near-enough, go-to, line-to, found, call, operate, run-token, advance, step-in, step, go-on, at-end, run, begin}
+use Rattle.machine.specs.Machine.{State, Frame, Binding, Value, amount, code, label, Went, on, ends, with-frames, push, with-one, with-two, placed, near-enough, go-to, line-to, found, call, operate, run-token, advance, step-in, go-on, run, begin}
 use Rattle.machine.specs.Stage.{operate-in-stage, run-token-in-stage, advance-in-stage, step-by-frame, step-in-stage, run-in-stage, Stage-is-whole}
 
 abbrev Frames-of-stage : List Frame → Type 0

@@ -1,15 +1,15 @@
 -- The stack and the frames of the code's machine as those of the written one.
-use mathlib.Core.Path.{_≡_, refl, sym, ap, _∙_}
+use mathlib.Core.Path.{_≡_, sym, ap, _∙_}
 use mathlib.Core.List.{List, [], _∷_, reverse, map}
 use native.Mathlib.Omega.{arith}
 use Prim.Native.Nat.{ℕ, _+_, _-_, _≤_, _<_}
-use lib.ListN.{length, set, take, drop}
+use lib.ListN.{length, set, take}
 use Rattle.std.proofs.shelf.Tests.{lt-ltb, le-ltb, cond-true, cond-false}
 use Rattle.machine.specs.Machine.{State, Value, Frame, Went, on, ends, with-stack, with-frames, push}
 use Rattle.machine.specs.Abstraction.{value-of, frame-of, tail, topped}
 use Rattle.machine.specs.declared.machine.Value as code-value
 use Rattle.machine.specs.declared.machine.Frame as code-frame
-use Rattle.machine.proofs.Tops.{length-tops, tops-push, tops-pop, tops-set, tops-tail}
+use Rattle.machine.proofs.Tops.{length-tops, tops-push, tops-pop, tops-set}
 
 pub push-fits : (s : State) (vs : List code-value.Value) (h : ℕ) (v : code-value.Value) → s .stack ≡ map value-of (reverse (take h vs)) → length vs ≡ 256 → h < 256 →
     on (with-stack s (map value-of (reverse (take (h + 1) (set vs h v))))) ≡ push s (s .stack) (value-of v)

@@ -1,7 +1,7 @@
 -- A step of the written machine, case by case, as the code takes it.
-use mathlib.Core.Path.{_≡_, refl, sym, ap, _∙_}
+use mathlib.Core.Path.{_≡_, sym, ap, _∙_}
 use mathlib.Core.List.{List, [], _∷_}
-use Prim.Native.Nat.{ℕ, zero, suc, _-_, _<_}
+use Prim.Native.Nat.{ℕ, suc, _-_, _<_}
 use native.Mathlib.Omega.{arith}
 use Rattle.tokens.specs.Token.{Token, Tokens, none, more}
 use Rattle.machine.specs.Machine.{State, Frame, Went, on, ends, with-frames, advance}

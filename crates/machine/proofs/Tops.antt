@@ -1,10 +1,10 @@
 -- The front of a list read from its end, each element by what it means: what a push, a look and a pop do to it.
-use mathlib.Core.Path.{_≡_, refl, sym, ap, _∙_}
+use mathlib.Core.Path.{_≡_, sym, ap, _∙_}
 use mathlib.Core.List.{List, [], _∷_, _++_, reverse, map}
 use native.Mathlib.Omega.{arith}
 use Prim.Native.Nat.{ℕ, _+_, _-_, _≤_, _<_}
 use lib.ListN.{length, getD, set, take, drop, length-map, length-reverse}
-use Rattle.std.proofs.shelf.Lists.{take-more, take-more-set, take-take, take-append-drop, reverse-append, length-take-le, length-drop, getD-map, getD-reverse, getD-take, drop-more, drop-all, drop-at, drop-map}
+use Rattle.std.proofs.shelf.Lists.{take-more-set, take-take, take-append-drop, reverse-append, length-take-le, length-drop, getD-map, getD-reverse, getD-take, drop-more, drop-all, drop-at, drop-map}
 use Rattle.std.proofs.shelf.Tests.{cases-lt}
 use mathlib.Core.Logic.{inl, inr}
 use Rattle.machine.specs.Abstraction.{tail}

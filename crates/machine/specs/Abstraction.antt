@@ -50,8 +50,8 @@ frame-of f = record { rest = decode (now (f .rest)); again = f .again; whole = d
 unfoldable pub clips-in : List ℕ → List (List Ring)
 clips-in ws = reverse (paths-in ws)
 
-abbrev pub manner-of : GraphicsState → List ℕ → Manner
-manner-of g ws = record { grey = g .grey; scale = g .scale; left = g .left; top = g .top; clips = clips-in (take (g .clips) ws) }
+abbrev pub graphics-of : GraphicsState → List ℕ → Manner
+graphics-of g ws = record { grey = g .grey; scale = g .scale; left = g .left; top = g .top; clips = clips-in (take (g .clips) ws) }
 
 -- the top of the stack, and the innermost frame, come first
 abbrev pub stack-of : Machine → List Value
@@ -82,7 +82,7 @@ state m p t =
       names = [];
       rings = rings-of p;
       ring = ring-of p;
-      manner = manner-of (m .graphics) (now (m .clips));
+      manner = graphics-of (m .graphics) (now (m .clips));
       saved = [];
       paints = t .paints;
       pages = t .pages;

@@ -18,12 +18,12 @@ pub enum Value<'a> {
     Label(u8),
 }
 
-// tokens still to be run, and how often a body after that
+// tokens still to be run, and how often a body after that; the number is last, so that a copy of a frame has no gap in it
 #[derive(Clone, Copy)]
 pub struct Frame<'a> {
     pub rest: &'a [u64],
-    pub again: u32,
     pub whole: &'a [u64],
+    pub again: u32,
 }
 
 // scale and corner in sixteenths of a dot; clips is how many words of clips are in force

@@ -1,14 +1,14 @@
 -- A run, step by step, and what a sink has seen of it.
 use mathlib.Core.Path.{_≡_, refl, sym, ap, _∙_}
-use mathlib.Core.List.{List, [], _∷_, _++_, reverse, map}
-use Prim.Native.Nat.{ℕ, zero, suc, _+_, _-_, _≤_, _<_}
+use mathlib.Core.List.{List, [], _∷_, _++_}
+use Prim.Native.Nat.{ℕ, suc, _+_, _-_, _≤_, _<_}
 use native.Mathlib.Omega.{arith}
-use lib.ListN.{length, take, length-append}
+use lib.ListN.{length, length-append}
 use Rattle.path.specs.Path.{Paint}
 use Rattle.machine.specs.Machine.{State, Frame, Went, on, ends, go-on, at-end}
 use Rattle.machine.specs.Laws.{state-of, end-of}
 use Rattle.machine.specs.Stage.{step-in-stage, run-in-stage}
-use Rattle.machine.specs.Abstraction.{Past, no-past, with-painted, with-page, frame-of, paint-in}
+use Rattle.machine.specs.Abstraction.{Past, no-past, with-painted, with-page, paint-in}
 use Rattle.run.specs.Sinks.{past-of, all-painted, all-shown, told}
 
 pub run-all : (n : ℕ) (s : State) → run-in-stage (n - 0) s ≡ run-in-stage n s

@@ -3,7 +3,7 @@ use mathlib.Core.List.{List, [], _∷_}
 use Prim.Native.Nat.{ℕ}
 use Rattle.tokens.specs.Stored.{operator-of}
 use Rattle.path.specs.Path.{Paint}
-use Rattle.machine.specs.Machine.{State, Went}
+use Rattle.machine.specs.Machine.{Went}
 use Rattle.machine.specs.Laws.{state-of}
 use Rattle.machine.specs.Stage.{unsupported}
 use Rattle.machine.specs.Abstraction.{Past, fault-number}

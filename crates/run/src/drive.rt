@@ -1,11 +1,9 @@
 ghost use mathlib.Core.Path.{_≡_};
-ghost use mathlib.Core.List.{List, [], _∷_};
+ghost use mathlib.Core.List.{List};
 ghost use Prim.Native.Nat.{_≤_};
 ghost use lib.ListN.{length};
 ghost use base.Fml.{GName};
-ghost use Rattle.tokens.specs.Stored.{decode};
 ghost use Rattle.path.specs.Path.{Paint};
-ghost use Rattle.machine.specs.Machine.{begin};
 ghost use Rattle.machine.specs.Laws.{state-of, end-of};
 ghost use Rattle.machine.specs.Stage.{run-in-stage};
 ghost use Rattle.machine.specs.Abstraction.{no-past, state, paint-in};

@@ -64,24 +64,20 @@ fn store_row<'a>(
     loop {
         let (lexeme, next) = lexeme_at(source, p.at);
         match lexeme {
-            Lexeme::End => return p,
-            Lexeme::Wrong { .. } => return p,
-            Lexeme::Close { .. } => return Progress {
-                at: next,
-                used: p.used,
-                known: p.known,
-            },
+            Lexeme::End | Lexeme::Wrong { .. } => return p,
+            Lexeme::Close { .. } => {
+                p.at = next;
+                return p;
+            }
             Lexeme::Open { .. } => {
                 if depth == 0 {
                     return p;
                 }
-                let body = Progress {
-                    at: next,
-                    used: p.used + 2,
-                    known: p.known,
-                };
-                let after = store_row(source, names, words, body, depth - 1);
-                put(words, p.used, (4, (after.used - body.used) as u64));
+                let header = p.used;
+                p.at = next;
+                p.used += 2;
+                let after = store_row(source, names, words, p, depth - 1);
+                put(words, header, (4, (after.used - p.used) as u64));
                 p = after;
             }
             _ => {
@@ -89,11 +85,9 @@ fn store_row<'a>(
                     return p;
                 };
                 put(words, p.used, begun(token));
-                p = Progress {
-                    at: next,
-                    used: p.used + 2,
-                    known,
-                };
+                p.at = next;
+                p.used += 2;
+                p.known = known;
             }
         }
     }

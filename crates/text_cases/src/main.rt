@@ -3,6 +3,7 @@ mod bytes;
 mod made;
 mod operators;
 mod report;
+mod stored;
 mod written;
 
 use bytes::report_bytes;
@@ -10,12 +11,14 @@ use made::report_made;
 use made::report_vast;
 use operators::report_operators;
 use std::io;
+use stored::report_stored;
 use written::report_written;
 
 fn run(rt: &LibcRuntime) -> io::Result<()> {
     report_written(rt)?;
     report_operators(rt)?;
     report_bytes(rt)?;
+    report_stored(rt)?;
     report_made(rt)?;
     report_vast(rt)
 }

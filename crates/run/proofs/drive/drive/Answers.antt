@@ -1,10 +1,7 @@
 use native.Mathlib.Omega.{arith}
-use mathlib.Core.Path.{_≡_, refl, sym, ap, _∙_}
-use lib.ListN.{length}
-use Rattle.machine.specs.Laws.{state-of, end-of}
+use mathlib.Core.Path.{refl, sym, ap, _∙_}
 use Rattle.machine.specs.Stage.{unsupported}
-use Rattle.machine.specs.Abstraction.{no-past, with-painted, with-page, state, frames-of, thing-of, after-event, fault-number}
-use Rattle.run.specs.Sinks.{told}
+use Rattle.machine.specs.Abstraction.{no-past, with-painted, with-page, state, thing-of, after-event, fault-number}
 use Rattle.tokens.specs.Stored.{operator-of}
 use Rattle.run.proofs.Driving.{run-all, run-on, told-none, told-painted, told-page, closes, used-up, same-paint, page-more}
 use Rattle.run.proofs.drive.drive.Needs.{in-On, in-Painted, in-Shown}

@@ -1,4 +1,5 @@
 use mathlib.Core.Path.{_≡_, refl, sym, ap, subst, _∙_}
+use mathlib.Core.Logic.{inl, inr}
 use mathlib.Core.List.{List, [], _∷_}
 use Prim.Native.Nat.{ℕ, _+_, _-_, _<_, _≤_}
 use native.Mathlib.Omega.{arith}
@@ -9,6 +10,7 @@ use Rattle.words.specs.Naming.{known-in}
 use Rattle.words.specs.Meaning.{plain-limit}
 use Rattle.tokens.specs.Stored.{token-of}
 use Rattle.text.specs.Storing.{begun-with, Ready, Stored-row}
+use Rattle.lexer.proofs.Faults.{not-fine}
 use Rattle.text.proofs.Limiting.{Next, next-piece, placed, plain-of}
 use Rattle.text.proofs.Storing.{Part, part-none, part-plain, part-body, part-close, part-end, ready-open, ready-plain, two-words}
 use Rattle.text.proofs.store.+store_row.Needs as need
@@ -26,7 +28,11 @@ returns-in-End t c =
     let j = c .lexeme-at-next .result .1 in
     let ws = known-in (c .loop-p .names) (p .known) in
     let Row : List Piece → Type 0 = λ qs. Part (length s) (32 - c .args .depth) (from s (c .args .start .at)) (known-in (c .args .names .now) (c .args .start .known)) (c .args .start .used) (c .args .words .now) qs ws (p .used) (c .loop-p .words) in
-    let saw = subst (λ z. Saw s (p .at) z j) (c .in-End .is) (c .lexeme-at-next .ensures) in
+    let saw : from s (p .at) ≡ [] =
+    elim (c .in-End .is) [
+      | inl e ↦ subst (λ z. Saw s (p .at) z j) e (c .lexeme-at-next .ensures)
+      | inr e ↦ absurd (not-fine (e .0) (sym (subst (λ z. Saw s (p .at) z j) (e .1) (c .lexeme-at-next .ensures) (length s) (32 - c .args .depth)) ∙ c .loop-p .inv .2 .ready .readable))
+    ] in
     let whole = part-end (length s) (32 - c .args .depth) (from s (c .args .start .at)) (known-in (c .args .names .now) (c .args .start .known)) (c .args .start .used) (c .args .words .now) ws (p .used) (c .loop-p .words) (subst Row saw (c .loop-p .inv .2)) in
     record { row = subst (λ z. Stored-row (length s) (32 - c .args .depth) (from s (c .args .start .at)) (known-in (c .args .names .now) (c .args .start .known)) (c .args .start .used) (c .args .words .now) z ws (p .used) (c .loop-p .words)) (sym saw) whole; bound = (c .loop-p .inv .0, c .loop-p .inv .1) }
 

@@ -1,5 +1,5 @@
 use borrow.Author.Needs.{needs}
-use mathlib.Core.Path.{_≡_, refl, sym, ap, _∙_}
+use mathlib.Core.Path.{_≡_, refl}
 use Rattle.tokens.specs.Token.{number-of}
 use Rattle.tokens.specs.Stored.{operator-of}
 use Rattle.tokens.specs.declared.Operator as code-operator
