@@ -1,15 +1,15 @@
 -- Bits of a word: of a sum without carry, of a shift, of a power of two, of a word of ones.
 use mathlib.Core.Path.{_≡_, refl, sym, ap, _∙_}
 use mathlib.Core.Logic.{inl, inr, _⊎_}
-use mathlib.Core.Bool.{Bool, true, false, not, _&&_, xor}
-use Prim.Native.Nat.{ℕ, zero, suc, min, _+_, _*_, _-_, _/_, _%_, _^_, _≤_, _<_}
+use mathlib.Core.Bool.{Bool, true, false, _&&_, xor}
+use Prim.Native.Nat.{ℕ, zero, suc, _+_, _*_, _-_, _/_, _%_, _^_, _≤_, _<_}
 use native.Mathlib.Omega.{arith}
-use native.Mathlib.Nat.{mod-lt, mul-comm, mul-assoc, add-zero, zero-add, div-eq-of-lt, div-one, div-lt-self, add-mul-mod-self-right, mod-eq-of-lt}
-use lib.Dec.{eqb, leb, ltb}
-use lib.Bits.{bitAnd, bitXor, xor-shr, and-shr, xor-mod, and-mod, and-mask}
+use native.Mathlib.Nat.{mod-lt, mul-assoc, zero-add, div-eq-of-lt, div-one, div-lt-self, add-mul-mod-self-right}
+use lib.Dec.{eqb}
+use lib.Bits.{bitAnd, bitXor, xor-shr, and-shr, xor-mod, and-mod}
 use lib.Count.{trailingZeros, under}
 use lib.Pow.{pow-add, pow-pos, shl-shr, shr-shr, field, mod-mod-pow, ones-split, high, ones-lt, pow-lt, pow-mono}
-use Rattle.std.proofs.shelf.Tests.{cases-lt, cases-eq, le-leb, lt-leb, eq-eqb, ne-eqb}
+use Rattle.std.proofs.shelf.Tests.{cases-lt, cases-eq, eq-eqb, ne-eqb}
 use Rattle.bits.specs.Row.{bit}
 
 -- exclusive or
@@ -121,10 +121,6 @@ bit-mod-above a m k le =
     let h = mod-lt a {m = 2 ^ m} (pow-pos m) in
     let p = pow-mono {i = m} {j = k} le in
     ap (λ n. eqb (n % 2) 1) (div-eq-of-lt {n = a % 2 ^ m} {m = 2 ^ k} (omega arith))
-
--- no bit of a number stands above it
-pub bit-above : (a m k : ℕ) → a < 2 ^ m → m ≤ k → bit a k ≡ false
-bit-above a m k lt le = sym (ap (λ n. bit n k) (mod-eq-of-lt lt)) ∙ bit-mod-above a m k le
 
 -- a shift to the left
 bit-times-above : (a j k : ℕ) → j ≤ k → bit (a * 2 ^ j) k ≡ bit a (k - j)

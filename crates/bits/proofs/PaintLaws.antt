@@ -5,13 +5,13 @@ use mathlib.Core.Bool.{Bool, true, false, xor, cond}
 use mathlib.Core.List.{List}
 use Prim.Native.Nat.{ℕ, min, _+_, _*_, _-_, _/_, _%_, _^_, _≤_, _<_}
 use native.Mathlib.Omega.{arith}
-use native.Mathlib.Nat.{div-eq-of-lt, add-zero}
+use native.Mathlib.Nat.{div-eq-of-lt, mod-lt, add-zero}
 use borrow.Rule.Slice.PartMut.{putMid}
 use lib.Bits.{bitXor}
 use lib.Pow.{shr-shr, pow-mono}
 use lib.ListN.{length, getD}
 use Rattle.std.proofs.shelf.Tests.{cases-lt, false≢true}
-use Rattle.bits.specs.Row.{bit, bit-at, Within}
+use Rattle.bits.specs.Row.{bit, bit-at}
 use Rattle.bits.proofs.BitLaws.{bit-shr, bit-xor, bit-ones}
 use Rattle.bits.proofs.PartLaws.{put-before, put-in, put-past, put-length}
 
@@ -98,3 +98,13 @@ other-set word k lt h = flip (bit word k) (sym (bit-xor word 1844674407370955161
     flip : (b : Bool) → xor b true ≡ true → b ≡ false
     flip true e = sym e
     flip false e = refl
+
+-- a dot in a run of full words
+pub full-bit : (ws : List ℕ) (i next x : ℕ) → getD ws i 0 ≡ 18446744073709551615 → 64 * i ≤ x → x < 64 * next → ((k : ℕ) → i + 1 ≤ k → k < next → getD ws k 0 ≡ 18446744073709551615) → bit-at ws x ≡ true
+full-bit ws i next x first from to rest =
+    let word : getD ws (x / 64) 0 ≡ 18446744073709551615 =
+    elim (cases-lt i (x / 64)) [
+      | inl later ↦ rest (x / 64) (omega arith) (omega arith)
+      | inr same ↦ let e : x / 64 ≡ i = omega arith in ap (λ n. getD ws n 0) e ∙ first
+    ] in
+    ap (λ w. bit w (x % 64)) word ∙ bit-ones (x % 64) (mod-lt x {m = 64} (omega arith))

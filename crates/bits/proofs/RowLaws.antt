@@ -1,12 +1,12 @@
 -- Rows of bits: parities, one bit changed, and the steps of a sweep.
 use mathlib.Core.Path.{_≡_, refl, sym, ap, _∙_}
-use mathlib.Core.Logic.{inl, inr, _⊎_, _≢_}
+use mathlib.Core.Logic.{inl, inr, _≢_}
 use mathlib.Core.Bool.{Bool, true, false, not, _&&_, xor}
 use mathlib.Core.List.{List}
 use Prim.Native.Nat.{ℕ, zero, suc, min, max, _+_, _*_, _-_, _/_, _%_, _^_, _≤_, _<_}
 use native.Mathlib.Omega.{arith}
 use native.Mathlib.Nat.{div-add-mod, mod-lt, mod-eq-of-lt, add-zero, add-suc}
-use lib.Dec.{eqb, leb, ltb}
+use lib.Dec.{eqb, ltb}
 use lib.Bits.{bitAnd, bitXor}
 use lib.ListN.{length, getD, set, length-set}
 use lib.Seq.{getD-set-same, getD-set-other}
@@ -167,6 +167,11 @@ carried w (suc zero) n lt some =
     odd-toggled (bit w) (bit (bitXor w 1)) 0 n (λ k. bit-xor w 1 k ∙ xor-comm (bit w k) (bit 1 k) ∙ ap (λ b. xor b (bit w k)) (bit-one k))
     ∙ ap (λ b. xor b (odd-below (bit w) n)) (lt-ltb 0 n some)
 carried w (suc (suc c)) n lt some = let no : ⊥ = omega arith in absurd no
+
+-- a word with no bit set has the carry in all of its places
+pub carried-none : (carry r k : ℕ) → carry < 2 → bit r k ≡ not (eqb carry 0) → bit r k ≡ odd-below (bit (bitXor 0 carry)) (suc k)
+carried-none carry r k lt h =
+    h ∙ sym (carried 0 carry (suc k) lt (omega arith) ∙ ap (xor (not (eqb carry 0))) (odd-none (bit 0) (suc k) (λ j less. bit-zero j)) ∙ xor-false (not (eqb carry 0)))
 
 -- one word more of a sweep: `was` is the row before it
 abbrev pub Swept : List ℕ → List ℕ → ℕ → ℕ → ℕ → Type 0

@@ -54,7 +54,20 @@ fn paint_word(dots: &mut [u8], word: u64, grey: u8)
     }
 }
 
-// Writes grey to the dots of a row whose bits are set.
+// The first word from `from` on that is not all ones, or `high`.
+fn after_full(bits: &[u64], from: usize, high: usize) -> usize
+    requires { ⌜ from ≤ high ⌝ ∗ ⌜ high ≤ length (now bits) ⌝ }
+    ensures within { λ r. ⌜ (from ≤ r) × (r ≤ high) ⌝ }
+    ensures full { λ r. ⌜ ((i : ℕ) → from ≤ i → i < r → getD (now (bits .entry)) i 0 ≡ 18446744073709551615) ⌝ }
+{
+    let mut i = from;
+    while i < high && bits[i] == u64::MAX {
+        i += 1;
+    }
+    i
+}
+
+// Writes grey to the dots of a row whose bits are set: a run of full words at once, any other word by itself.
 pub fn paint(row: &mut [u8], bits: &[u64], span: Span, grey: u8)
     requires few { ⌜ length (now bits) < 2 ^ 32 ⌝ }
     requires len { ⌜ length (now row) ≤ 64 * length (now bits) ⌝ }
@@ -63,9 +76,18 @@ pub fn paint(row: &mut [u8], bits: &[u64], span: Span, grey: u8)
 {
     let Span { low, high } = span;
     let width = row.len();
-    for i in low..high {
+    let mut i = low;
+    while i < high {
         let start = (64 * i).min(width);
-        let end = (start + 64).min(width);
-        paint_word(&mut row[start..end], bits[i], grey);
+        if bits[i] == u64::MAX {
+            let next = after_full(bits, i + 1, high);
+            let end = (64 * next).min(width);
+            fill_dots(&mut row[start..end], grey);
+            i = next;
+        } else {
+            let end = (start + 64).min(width);
+            paint_word(&mut row[start..end], bits[i], grey);
+            i += 1;
+        }
     }
 }

@@ -1,6 +1,7 @@
 ghost use mathlib.Core.Path.{_≡_};
 ghost use mathlib.Core.Bool.{not, _&&_, xor};
 ghost use Prim.Native.Nat.{ℕ, suc, _*_, _<_, _≤_};
+ghost use lib.Bits.{bitXor};
 ghost use lib.Dec.{eqb};
 ghost use lib.ListN.{length, getD};
 ghost use Rattle.bits.specs.Row.{bit, bit-at, odd-below, Within, Empty};
@@ -50,6 +51,17 @@ fn spread(word: u64) -> u64
     by_half ^ (by_half << 32)
 }
 
+// A word with the parity that is carried into it, swept. A word with no bit set is all as the carry says.
+fn swept(word: u64, carry: u64) -> u64
+    requires { ⌜ carry < 2 ⌝ }
+    ensures { λ r. ⌜ ((k : ℕ) → k < 64 → bit r k ≡ odd-below (bit (bitXor word carry)) (suc k)) ⌝ }
+{
+    if word != 0 {
+        return spread(word ^ carry);
+    }
+    if carry == 0 { 0 } else { u64::MAX }
+}
+
 // Sweeps the words from `low` up to before `high`; the words below are 0. Answers the parity of all bits, 0 or 1.
 fn sweep_words(bits: &mut [u64], low: usize, high: usize) -> u64
     requires { ⌜ low ≤ high ⌝ ∗ ⌜ Within (now bits) low high ⌝ }
@@ -60,7 +72,7 @@ fn sweep_words(bits: &mut [u64], low: usize, high: usize) -> u64
 {
     let mut carry = 0;
     for i in low..high {
-        let word = spread(bits[i] ^ carry);
+        let word = swept(bits[i], carry);
         bits[i] = word;
         carry = word >> 63;
     }
@@ -94,7 +106,7 @@ pub fn sweep(bits: &mut [u64], span: Span) -> Span
 
 // Keeps the bits of the row that are set in `others` too.
 pub fn keep_common(bits: &mut [u64], others: &[u64], span: Span)
-    requires { ⌜ length (now others) ≡ length (now bits) ⌝ ∗ ⌜ Within (now bits) (span .low) (span .high) ⌝ }
+    requires { ⌜ span .high ≤ length (now others) ⌝ ∗ ⌜ Within (now bits) (span .low) (span .high) ⌝ }
     ensures value { λ _. ⌜ ((x : ℕ) → bit-at (now (bits .exit)) x ≡ (bit-at (now (bits .entry)) x && bit-at (now (others .entry)) x)) ⌝ }
     ensures within { λ _. ⌜ Within (now (bits .exit)) (span .low) (span .high) ⌝ }
 {

@@ -1,20 +1,18 @@
 -- A path that is being built, over plain lists: what its words decode to, and what a write and a new point leave.
 use mathlib.Core.Path.{_≡_, refl, sym, ap, _∙_}
-use mathlib.Core.Logic.{inl, inr, _≢_}
-use mathlib.Core.Bool.{Bool, true, false, _&&_, cond}
+use mathlib.Core.Logic.{_≢_}
+use mathlib.Core.Bool.{true}
 use mathlib.Core.List.{List, [], _∷_, _++_, append-assoc}
 use Prim.Native.Nat.{ℕ, zero, suc, _+_, _*_, _-_, _%_, _≤_, _<_}
 use native.Mathlib.Omega.{arith}
 use native.Mathlib.Nat.{mod-eq-of-lt}
 use denote.Ref.{now}
-use lib.Dec.{ltb}
 use lib.ListN.{length, getD, set, take, drop, length-take, length-drop, length-set}
 use lib.Seq.{take-add, drop-cons, take-set-le, drop-set-lt, drop-set-add, take-suc-set, getD-set-other, getD-set-same}
-use Rattle.std.proofs.shelf.Tests.{cases-lt, lt-ltb, le-ltb}
-use Rattle.path.specs.Path.{Point, Ring, points, finished}
+use Rattle.path.specs.Path.{points, finished}
 use Rattle.path.specs.Points.{point}
 use Rattle.path.specs.Stored.{points-in, rings-in, complete}
-use Rattle.path.specs.Building.{rings-of, ring-of, points-of}
+use Rattle.path.specs.Building.{ring-of, points-of}
 use Rattle.path.specs.declared.builder.Path.{Path}
 use Rattle.path.proofs.StoredLaws.{complete-none, complete-one-more, rings-push, rings-none, points-none, points-push, length-points, total-push, total-none, finished-none, finished-some}
 

@@ -2,16 +2,16 @@
 use mathlib.Core.Path.{_≡_, refl, sym, ap, _∙_}
 use mathlib.Core.List.{List, [], _∷_, _++_, map}
 use mathlib.Core.Logic.{inl, inr}
-use mathlib.Core.Bool.{true, _&&_}
+use mathlib.Core.Bool.{true}
 use Prim.Native.Nat.{ℕ, zero, suc, min, _+_, _*_, _-_, _%_, _≤_, _<_}
 use native.Mathlib.Omega.{arith}
 use native.Mathlib.Nat.{mul-suc, zero-mul, suc-mul}
-use lib.ListN.{length, take, drop, getD, length-drop, length-take, length-append}
-use lib.Seq.{take-nil, drop-nil, take-append-le, drop-append-le, take-all, drop-length}
-use Rattle.std.proofs.shelf.Lists.{take-at, drop-at, append-assoc, append-nil, take-more, drop-all}
+use lib.ListN.{length, take, drop, getD, length-drop, length-append}
+use lib.Seq.{take-nil, drop-nil, take-append-le, drop-append-le, take-all}
+use Rattle.std.proofs.shelf.Lists.{drop-all}
 use lib.Dec.{leb}
 use Rattle.std.proofs.shelf.Tests.{cases-lt, leb-true, le-leb, and-parts, and-from, false≢true}
-use Rattle.path.specs.Path.{Point, Ring, points, finished}
+use Rattle.path.specs.Path.{Ring, points, finished}
 use Rattle.path.specs.Stored.{points-in, pieces-by, pieces, rings-in, paths-in, complete-by, complete}
 
 -- more rounds than words make no difference

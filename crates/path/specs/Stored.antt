@@ -4,7 +4,7 @@ use mathlib.Core.List.{List, [], _∷_, map}
 use Prim.Native.Nat.{ℕ, zero, suc, _*_, _%_}
 use lib.Dec.{leb}
 use lib.ListN.{length, take, drop}
-use Rattle.path.specs.Path.{Point, Ring}
+use Rattle.path.specs.Path.{Ring}
 
 -- two words a point, x and then y, cut to 24 bits; a last odd word is no point
 unfoldable pub points-in : List ℕ → Ring

@@ -1,9 +1,9 @@
 -- Rows of dots as bytes: what stands where, one row more, and a whole band with one thing more painted.
 use mathlib.Core.Path.{_≡_, refl, sym, ap, _∙_}
 use mathlib.Core.Logic.{inl, inr}
-use mathlib.Core.Bool.{Bool, true, false, _&&_, cond}
+use mathlib.Core.Bool.{false, cond}
 use mathlib.Core.List.{List, [], _∷_, _++_}
-use Prim.Native.Nat.{ℕ, zero, suc, min, _+_, _*_, _-_, _/_, _%_, _≤_, _<_}
+use Prim.Native.Nat.{ℕ, zero, suc, _+_, _*_, _-_, _/_, _%_, _≤_, _<_}
 use native.Mathlib.Omega.{arith}
 use native.Mathlib.Nat.{suc-mul, zero-mul, mul-le-mul-right, add-zero, add-suc, suc-add}
 use borrow.Rule.Slice.PartMut.{putMid}
@@ -12,7 +12,7 @@ use Rattle.bits.specs.Row.{Empty}
 use Rattle.std.proofs.shelf.Lists.{getD-append-left, getD-append-right, getD-at, getD-take, getD-drop, getD-replicate, getD-past, ext-getD}
 use Rattle.std.proofs.shelf.Bits.{div-below, mod-below, div-add-mod'}
 use Rattle.std.proofs.shelf.Tests.{cases-lt}
-use Rattle.bits.proofs.PartLaws.{put-before, put-in, put-past, put-length}
+use Rattle.bits.proofs.PartLaws.{put-before, put-in, put-past}
 use Rattle.path.specs.Path.{Paint}
 use Rattle.raster.specs.Coverage.{covers, dot-on, dot, row, rows}
 
@@ -74,9 +74,6 @@ Banded f was bytes w start r =
     ((q x : ℕ) → start ≤ q → q < r → x < w → getD bytes (q * w + x) 0 ≡ f q x (getD was (q * w + x) 0))
     × ((i : ℕ) → i < start * w → getD bytes i 0 ≡ getD was i 0)
     × ((i : ℕ) → r * w ≤ i → getD bytes i 0 ≡ getD was i 0)
-
-pub banded-none : (f : ℕ → ℕ → ℕ → ℕ) (was : List ℕ) (w start : ℕ) → Banded f was was w start start
-banded-none f was w start = (λ q x le lt h. let no : ⊥ = omega arith in absurd no, λ i lt. refl, λ i le. refl)
 
 pub banded-more : (f : ℕ → ℕ → ℕ → ℕ) (was bytes part : List ℕ) (w start r : ℕ) → start ≤ r → r * w + w ≤ length bytes → Banded f was bytes w start r →
     length part ≡ length (take (r * w + w - r * w) (drop (r * w) bytes)) →

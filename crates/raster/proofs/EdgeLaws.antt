@@ -1,12 +1,12 @@
 -- Where an edge crosses a level: which of its two directions counts, and the first dot past the crossing by one division.
 use mathlib.Core.Path.{_≡_, refl, sym, ap, _∙_}
 use mathlib.Core.Logic.{inl, inr}
-use mathlib.Core.Bool.{Bool, true, false, _&&_, _||_, or-false}
+use mathlib.Core.Bool.{Bool, true, false, _&&_, _||_}
 use Prim.Native.Nat.{ℕ, suc, _+_, _*_, _-_, _/_, _≤_, _<_}
 use native.Mathlib.Omega.{arith}
-use native.Mathlib.Nat.{add-mul, mul-assoc, mul-comm, mul-add}
+use native.Mathlib.Nat.{add-mul, mul-assoc, mul-comm}
 use lib.Dec.{ltb, leb}
-use Rattle.std.proofs.shelf.Tests.{cases-lt, le-leb, lt-leb, lt-ltb, le-ltb}
+use Rattle.std.proofs.shelf.Tests.{cases-lt, le-leb, lt-leb, le-ltb}
 use Rattle.std.proofs.shelf.Bits.{div-below, le-div}
 use Rattle.path.specs.Path.{Point}
 use Rattle.raster.specs.Coverage.{rises, crosses}
@@ -31,14 +31,7 @@ dot-reached n d x some =
     last : (m d : ℕ) → 16 * m + 1 * (16 * d) ≡ 16 * m + 16 * d
     last m d = omega arith
 
--- an edge that goes down through the level
-rises-through : (p q : Point) (a b : ℕ) → p .y ≤ b → b < q .y → rises p q a b ≡ leb (p .x * (q .y - b) + q .x * (b - p .y)) (a * (q .y - p .y))
-rises-through p q a b above below =
-    let e : leb (p .y) b ≡ true = le-leb (p .y) b above in
-    let f : ltb b (q .y) ≡ true = lt-ltb b (q .y) below in
-    ap (λ t. (t && ltb b (q .y)) && leb (p .x * (q .y - b) + q .x * (b - p .y)) (a * (q .y - p .y))) e
-    ∙ ap (λ t. t && leb (p .x * (q .y - b) + q .x * (b - p .y)) (a * (q .y - p .y))) f
-
+-- an edge that begins below the level, and one that ends above it
 rises-below : (p q : Point) (a b : ℕ) → b < p .y → rises p q a b ≡ false
 rises-below p q a b h = ap (λ t. (t && ltb b (q .y)) && leb (p .x * (q .y - b) + q .x * (b - p .y)) (a * (q .y - p .y))) (lt-leb (p .y) b h)
 
@@ -50,12 +43,6 @@ rises-above p q a b h =
     nothing : (s t : Bool) → ((s && false) && t) ≡ false
     nothing true t = refl
     nothing false t = refl
-
-pub crosses-down : (p q : Point) (a b : ℕ) → p .y ≤ b → b < q .y → crosses p q a b ≡ leb (p .x * (q .y - b) + q .x * (b - p .y)) (a * (q .y - p .y))
-crosses-down p q a b above below = ap (λ t. rises p q a b || t) (rises-below q p a b below) ∙ or-false (rises p q a b) ∙ rises-through p q a b above below
-
-pub crosses-up : (p q : Point) (a b : ℕ) → b < p .y → q .y ≤ b → crosses p q a b ≡ leb (q .x * (p .y - b) + p .x * (b - q .y)) (a * (p .y - q .y))
-crosses-up p q a b below above = ap (λ t. t || rises q p a b) (rises-below p q a b below) ∙ rises-through q p a b above below
 
 -- an edge that lies all above or all below the level
 pub crosses-not-below : (p q : Point) (a b : ℕ) → b < p .y → b < q .y → crosses p q a b ≡ false

@@ -1,14 +1,14 @@
 -- Folds of levels, one piece more, and that nothing is covered outside of them.
 use mathlib.Core.Path.{_≡_, refl, sym, ap, _∙_}
 use mathlib.Core.Logic.{inl, inr, _⊎_}
-use mathlib.Core.Bool.{Bool, true, false, _&&_, and-false}
+use mathlib.Core.Bool.{false, _&&_, and-false}
 use mathlib.Core.List.{List, [], _∷_}
 use Prim.Native.Nat.{ℕ, min, max, _≤_, _<_}
 use native.Mathlib.Omega.{arith}
 use Rattle.std.specs.Iters.{folded}
 use Rattle.std.proofs.shelf.Tests.{cases-lt}
 use Rattle.path.specs.Path.{Point, Ring}
-use Rattle.raster.specs.Coverage.{differ, crosses, along, in-ring, in-path, in-all}
+use Rattle.raster.specs.Coverage.{differ, along, in-ring, in-path, in-all}
 use Rattle.raster.specs.Levels.{ring-top, ring-bottom, path-top, path-bottom, clips-top, clips-bottom}
 use Rattle.raster.proofs.EdgeLaws.{crosses-not-below, crosses-not-above}
 

@@ -14,29 +14,30 @@ use bits::row::nothing;
 use bits::row::sweep;
 use path::cursor::first_path;
 
-// Sets the bits of the dots that the path covers at the level.
-fn cover(bits: &mut [u64], path: &[u64], level: u32) -> Span
+// Sets the bits of the dots from `left` on that the path covers at the level.
+fn cover(bits: &mut [u64], path: &[u64], level: u32, left: usize) -> Span
     requires empty { ⌜ Empty (now bits) ⌝ }
-    ensures value { λ _. ⌜ ((x : ℕ) → x < 64 * length (now (bits .entry)) → bit-at (now (bits .exit)) x ≡ in-path (rings-in (now (path .entry))) (16 * x + 8) level) ⌝ }
+    ensures value { λ _. ⌜ ((x : ℕ) → left ≤ x → x < 64 * length (now (bits .entry)) → bit-at (now (bits .exit)) x ≡ in-path (rings-in (now (path .entry))) (16 * x + 8) level) ⌝ }
     ensures within { λ r. ⌜ Within (now (bits .exit)) (r .low) (r .high) ⌝ }
 {
     let none = nothing(bits);
-    let crossings = cross_path(bits, path, level, none);
+    let crossings = cross_path(bits, path, level, left, none);
     sweep(bits, crossings)
 }
 
-// Keeps the bits of the dots that every clip covers too. `mask` is for one clip's bits.
+// Keeps the bits of the dots that every clip covers too. `mask` is for one clip's bits, as far as the row's are set.
 fn clip(bits: &mut [u64], mask: &mut [u64], clips: &[u64], level: u32, span: Span)
-    requires len { ⌜ length (now mask) ≡ length (now bits) ⌝ }
+    requires len { ⌜ (length (now mask) ≡ span .high) × (length (now bits) < 2 ^ 32) × (span .low < span .high) ⌝ }
     requires empty { ⌜ Empty (now mask) ⌝ }
     requires within { ⌜ Within (now bits) (span .low) (span .high) ⌝ }
-    ensures value { λ _. ⌜ ((x : ℕ) → x < 64 * length (now (bits .entry)) → bit-at (now (bits .exit)) x ≡ (bit-at (now (bits .entry)) x && in-all (paths-in (now (clips .entry))) (16 * x + 8) level)) ⌝ }
+    ensures value { λ _. ⌜ ((x : ℕ) → bit-at (now (bits .exit)) x ≡ (bit-at (now (bits .entry)) x && in-all (paths-in (now (clips .entry))) (16 * x + 8) level)) ⌝ }
     ensures within { λ _. ⌜ Within (now (bits .exit)) (span .low) (span .high) ⌝ }
     ensures empty { λ _. ⌜ Empty (now (mask .exit)) ⌝ }
 {
+    let left = 64 * span.low;
     let mut rest = clips;
     while let Some((path, others)) = first_path(rest) {
-        let covered = cover(mask, path, level);
+        let covered = cover(mask, path, level, left);
         keep_common(bits, mask, span);
         clear(mask, covered);
         rest = others;
@@ -59,9 +60,10 @@ pub fn paint_row(
     ensures bits { λ _. ⌜ Empty (now (bits .exit)) ⌝ }
     ensures mask { λ _. ⌜ Empty (now (mask .exit)) ⌝ }
 {
-    let covered = cover(bits, path, level);
-    if covered.low < covered.high {
-        clip(bits, mask, clips, level, covered);
+    let covered = cover(bits, path, level, 0);
+    let high = covered.high;
+    if covered.low < high {
+        clip(bits, &mut mask[0..high], clips, level, covered);
         paint(row, bits, covered, grey);
         clear(bits, covered);
     }

@@ -1,5 +1,4 @@
 ghost use mathlib.Core.Path.{_≡_};
-ghost use Prim.Native.Nat.{_^_, _≤_};
 ghost use Rattle.path.specs.Stored.{points-in, rings-in, paths-in};
 ghost use Rattle.raster.specs.Levels.{ring-top, ring-bottom, path-top, path-bottom, clips-top, clips-bottom};
 use path::cursor::first_path;

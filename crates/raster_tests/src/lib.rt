@@ -4,22 +4,22 @@
 // the middles a with L <= a < R, and from top T to bottom B the levels b with T <= b < B. Each expected
 // row below is worked out from that, and none is taken from a run.
 
-// How many dots of a row are not white.
-pub fn painted_dots(row: &[u8]) -> usize {
-    let mut n = 0usize;
-    for dot in row {
-        if *dot != 255 {
-            n = n.saturating_add(1);
-        }
-    }
-    n
-}
-
 #[cfg(test)]
 mod tests {
-    use super::painted_dots;
+    use path::builder::Path;
     use raster::band::paint_band;
     use std::test::*;
+
+    // How many dots of a row are not white.
+    fn painted_dots(row: &[u8]) -> usize {
+        let mut n = 0usize;
+        for dot in row {
+            if *dot != 255 {
+                n = n.saturating_add(1);
+            }
+        }
+        n
+    }
 
     // The square from (8, 8) to (24, 24): its left and upper corners are on the middle of dot 0, the others on that of dot 1.
     #[test]
@@ -316,6 +316,39 @@ mod tests {
         )
     }
 
+    // A square over dots 200 to 299, whose words begin at dot 192, under a clip from 0 to 4000: the last middle below that is dot 249's.
+    #[test]
+    fn clip_from_the_left() -> Result<(), Fail> {
+        let mut bytes = [255u8; 400];
+        paint_band(
+            &[4, 3200, 0, 4800, 0, 4800, 16, 3200, 16],
+            &[9, 4, 0, 0, 4000, 0, 4000, 16, 0, 16],
+            7,
+            &mut bytes,
+            400,
+            0,
+            1,
+        );
+        check(bytes[199] == 255 && bytes[200] == 7 && bytes[249] == 7 && bytes[250] == 255)?;
+        check_eq(painted_dots(&bytes), 50)
+    }
+
+    // The same under a clip that ends at 1600, left of all of it.
+    #[test]
+    fn clip_all_to_the_left() -> Result<(), Fail> {
+        let mut bytes = [255u8; 400];
+        paint_band(
+            &[4, 3200, 0, 4800, 0, 4800, 16, 3200, 16],
+            &[9, 4, 0, 0, 1600, 0, 1600, 16, 0, 16],
+            7,
+            &mut bytes,
+            400,
+            0,
+            1,
+        );
+        check_eq(painted_dots(&bytes), 0)
+    }
+
     // A count that is too large is cut, a last odd word is no point, and 2^24 is cut to 0: the square from 0 to 16.
     #[test]
     fn any_words() -> Result<(), Fail> {
@@ -330,6 +363,30 @@ mod tests {
             2,
         );
         check(bytes == [7, 255, 255, 255])
+    }
+
+    // A path that is built point by point, painted, emptied and painted again: its words still stand there.
+    #[test]
+    fn built_in_place() -> Result<(), Fail> {
+        let mut words = [0u64; 3072];
+        let mut path = Path::new(&mut words);
+        check(!path.is_open())?;
+        check(!path.append_point(3, 3))?;
+        check(path.begin_subpath(0, 0))?;
+        check(path.append_point(32, 0) && path.append_point(32, 32) && path.append_point(0, 32))?;
+        check(path.begin_subpath(16, 0))?;
+        check(path.append_point(32, 0) && path.append_point(32, 16) && path.append_point(16, 16))?;
+        check(path.is_open())?;
+        check_eq(path.points(), 8)?;
+        let used = path.used();
+        check_eq(used, 18)?;
+        let mut bytes = [255u8; 4];
+        paint_band(path.front(used), &[], 7, &mut bytes, 2, 0, 2);
+        check(bytes == [7, 255, 7, 7])?;
+        path.clear();
+        check_eq(path.points(), 0)?;
+        paint_band(path.front(used), &[], 9, &mut bytes, 2, 0, 2);
+        check(bytes == [9, 255, 9, 9])
     }
 
     // What is painted later is on top.

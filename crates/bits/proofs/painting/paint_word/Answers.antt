@@ -3,7 +3,7 @@ use mathlib.Core.Path.{_≡_, refl, sym, ap, _∙_}
 use mathlib.Core.Bool.{true, false, cond}
 use mathlib.Core.List.{List}
 use borrow.Rule.Slice.PartMut.{putMid}
-use Prim.Native.Nat.{ℕ, min, _+_, _-_, _/_, _^_, _<_, _≤_}
+use Prim.Native.Nat.{ℕ, min, _+_, _-_, _/_, _^_, _<_}
 use lib.ListN.{length, getD, take, drop, length-take, length-drop}
 use Rattle.bits.specs.Row.{bit}
 use Rattle.bits.proofs.BitLaws.{shr-less, bit-zero}

@@ -1,6 +1,4 @@
-use borrow.Author.Needs.{needs}
 use native.Mathlib.Omega.{arith}
-use mathlib.Core.Path.{_∙_}
 use Rattle.bits.proofs.RowLaws.{common-none, common-more, common-all}
 use Rattle.bits.proofs.row.keep_common.Needs as need
 

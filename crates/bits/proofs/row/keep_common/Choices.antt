@@ -1,8 +1,8 @@
 use mathlib.Core.Path.{_≡_}
 use mathlib.Core.Bool.{_&&_}
-use Prim.Native.Nat.{ℕ, suc, _*_, _<_, _≤_}
+use Prim.Native.Nat.{ℕ, _*_, _<_, _≤_}
 use lib.ListN.{getD}
-use Rattle.bits.specs.Row.{bit-at, odd-below}
+use Rattle.bits.specs.Row.{bit-at}
 use Rattle.bits.proofs.row.keep_common.Given as given
 
 abbrev pub Inv-loop-i : given.InvT-loop-i

@@ -7,4 +7,4 @@ loop-i-holds c = swept-none (c .args .bits .now) (c .args .low) (c .args .high) 
 
 pub loop-i-again : need.loop-i-again
 loop-i-again c =
-    swept-more (c .args .bits .now) (c .loop-i .bits) (c .args .low) (c .loop-i .i) (c .loop-i .carry) (c .spread-word .result) (omega arith) (omega arith) (c .spread-word .ok) (c .spread-word .ensures) (c .loop-i .inv)
+    swept-more (c .args .bits .now) (c .loop-i .bits) (c .args .low) (c .loop-i .i) (c .loop-i .carry) (c .swept-word .result) (omega arith) (omega arith) (c .swept-word .ok) (c .swept-word .ensures) (c .loop-i .inv)

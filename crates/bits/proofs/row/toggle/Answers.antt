@@ -1,11 +1,10 @@
-use borrow.Author.Needs.{needs}
 use native.Mathlib.Omega.{arith}
 use mathlib.Core.Path.{_≡_, ap, sym, _∙_}
-use Prim.Native.Nat.{_+_, _*_, _/_, _%_, _^_, _<_, min, max}
+use Prim.Native.Nat.{_*_, _/_, _%_, _^_, _<_, min, max}
 use lib.Bits.{bitXor}
 use lib.ListN.{length, getD, set}
 use Rattle.std.proofs.shelf.Bits.{one-shl, mod-below, div-below}
-use Rattle.bits.specs.Row.{bit-at, Within}
+use Rattle.bits.specs.Row.{bit-at}
 use Rattle.bits.proofs.RowLaws.{bit-toggled, within-set, within-as}
 use Rattle.bits.proofs.row.toggle.Needs as need
 

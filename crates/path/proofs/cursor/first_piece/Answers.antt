@@ -1,7 +1,7 @@
 use borrow.Author.Needs.{needs}
 use native.Mathlib.Omega.{arith}
 use mathlib.Core.Path.{_≡_, ap, sym, _∙_}
-use mathlib.Core.List.{[], _∷_}
+use mathlib.Core.List.{_∷_}
 use Prim.Native.Nat.{_+_, _*_, _-_, _≤_, min}
 use lib.ListN.{length, getD, take, drop, length-take, length-drop}
 use Rattle.std.proofs.shelf.Lists.{nil-from-length, take-rest}

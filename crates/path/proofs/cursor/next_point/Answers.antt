@@ -1,4 +1,3 @@
-use borrow.Author.Needs.{needs}
 use native.Mathlib.Omega.{arith}
 use mathlib.Core.Path.{ap, sym, _∙_}
 use mathlib.Core.List.{_∷_}
@@ -6,7 +5,6 @@ use Prim.Native.Nat.{_%_}
 use lib.ListN.{getD, length-take, length-drop}
 use Rattle.std.proofs.shelf.Lists.{take-rest}
 use Rattle.std.proofs.shelf.Bits.{mod-below}
-use Rattle.path.specs.Path.{Point}
 use Rattle.path.specs.Stored.{points-in}
 use Rattle.path.proofs.StoredLaws.{points-short, points-more}
 use Rattle.path.proofs.cursor.next_point.Needs as need

@@ -10,8 +10,8 @@ use Rattle.raster.proofs.crossing.cross_path.Needs as need
 pub loop-points-again : need.loop-points-again
 loop-points-again c =
     let n = c .in-Some .ensures tt in (
-      λ x lt.
-          path-step (points-in (c .in-Some .points .now)) (rings-in (c .in-Some .others .now)) (rings-in (c .loop-points .rest .now)) (16 * x + 8) (c .args .level) _ _ (n .cases) (c .cross-ring-crossings .ensures .value x (omega arith)) ∙ c .loop-points .inv .0 x lt,
+      λ x le lt.
+          path-step (points-in (c .in-Some .points .now)) (rings-in (c .in-Some .others .now)) (rings-in (c .loop-points .rest .now)) (16 * x + 8) (c .args .level) _ _ (n .cases) (c .cross-ring-crossings .ensures .value x le (omega arith)) ∙ c .loop-points .inv .0 x le lt,
       c .cross-ring-crossings .ensures .within,
       omega (arith, n .rest),
     )
@@ -19,6 +19,6 @@ loop-points-again c =
 pub returns : need.returns
 returns c =
     record {
-      value = λ x lt. sym (ap (λ b. differ b (odd-below (bit-at (c .loop-points .bits)) (suc x))) (path-none (rings-in (c .loop-points .rest .now)) (16 * x + 8) (c .args .level) (c .in-rest .ensures tt .cases))) ∙ c .loop-points .inv .0 x lt;
+      value = λ x le lt. sym (ap (λ b. differ b (odd-below (bit-at (c .loop-points .bits)) (suc x))) (path-none (rings-in (c .loop-points .rest .now)) (16 * x + 8) (c .args .level) (c .in-rest .ensures tt .cases))) ∙ c .loop-points .inv .0 x le lt;
       within = c .loop-points .inv .1;
     }

@@ -9,7 +9,7 @@ use Rattle.raster.proofs.crossing.cross_path.Given as given
 -- the subpaths that are left give what the whole path gives
 abbrev pub Inv-loop-points : given.InvT-loop-points
 Inv-loop-points l =
-    ((x : ℕ) → x < 64 * length (l .entry .bits) →
+    ((x : ℕ) → l .left ≤ x → x < 64 * length (l .entry .bits) →
     differ (in-path (rings-in (l .rest)) (16 * x + 8) (l .level)) (odd-below (bit-at (l .bits)) (suc x))
     ≡ differ (in-path (rings-in (l .entry .rest)) (16 * x + 8) (l .level)) (odd-below (bit-at (l .entry .bits)) (suc x)))
     × Within (l .bits) (l .crossings .low) (l .crossings .high)

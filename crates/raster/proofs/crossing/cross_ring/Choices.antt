@@ -10,7 +10,7 @@ use Rattle.raster.proofs.crossing.cross_ring.Given as given
 -- the edges that are left give what the whole ring gives
 abbrev pub Inv-loop-next : given.InvT-loop-next
 Inv-loop-next l =
-    ((x : ℕ) → x < 64 * length (l .entry .bits) →
+    ((x : ℕ) → l .left ≤ x → x < 64 * length (l .entry .bits) →
     differ (along (point-of (l .first)) (points-in (l .rest)) (point-of (l .last)) (16 * x + 8) (l .level)) (odd-below (bit-at (l .bits)) (suc x))
     ≡ differ (along (point-of (l .first)) (points-in (l .entry .rest)) (point-of (l .first)) (16 * x + 8) (l .level)) (odd-below (bit-at (l .entry .bits)) (suc x)))
     × Within (l .bits) (l .crossings .low) (l .crossings .high)

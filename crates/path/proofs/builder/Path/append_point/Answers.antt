@@ -1,9 +1,7 @@
 use borrow.Author.Needs.{needs}
 use native.Mathlib.Omega.{arith}
-use mathlib.Core.Path.{_≡_, sym}
-use mathlib.Core.Logic.{inl, inr}
-use mathlib.Core.Bool.{true, false, _&&_}
-use Prim.Native.Nat.{_+_, _<_}
+use mathlib.Core.Path.{sym}
+use Prim.Native.Nat.{_+_}
 use lib.Dec.{ltb}
 use lib.ListN.{set, length}
 use denote.Ref.{now}

@@ -1,9 +1,7 @@
 use borrow.Author.Needs.{needs}
 use native.Mathlib.Omega.{arith}
-use mathlib.Core.Path.{_≡_, sym}
-use mathlib.Core.Bool.{true, false}
-use Prim.Native.Nat.{_+_, _<_}
-use lib.Dec.{ltb}
+use mathlib.Core.Path.{sym}
+use Prim.Native.Nat.{_+_}
 use lib.ListN.{set}
 use denote.Ref.{now}
 use Rattle.std.proofs.shelf.Tests.{lt-ltb, le-ltb}
