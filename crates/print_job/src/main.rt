@@ -16,7 +16,9 @@ and prints 'tokens N', braces counted, or 'refused K at P'.
 
   --width W    dots in a row of a page, 1 to 8192 (64 where it is absent)
   --height H   rows of a page, 1 to 65535 (64 where it is absent)
-  --help       this text";
+  --help       this text
+
+Pages are not printed yet: width and height are checked and no more.";
 
 // What the command line asks for.
 #[derive(Drop)]

@@ -45,7 +45,7 @@ mod tests {
         check(bytes == [7, 7, 255, 7, 255, 255, 255, 255, 255])
     }
 
-    // The left slope crosses level 8 at 8 1/3, just past dot 0's middle, level 24 at 25 and level 40 at 41 2/3;
+    // The left slope crosses level 8 at 8 1/3, just past dot 0's middle, level 24 at 25 and level 40 at 41 2/3,
     // the right one at 125 2/3, 121 and 116 1/3.
     #[test]
     fn slopes_between_middles() -> Result<(), Fail> {

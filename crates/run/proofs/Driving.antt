@@ -8,7 +8,9 @@ use Rattle.path.specs.Path.{Paint}
 use Rattle.machine.specs.Machine.{State, Frame, Went, on, ends, go-on, at-end}
 use Rattle.machine.specs.Laws.{state-of, end-of}
 use Rattle.machine.specs.Stage.{step-in-stage, run-in-stage}
-use Rattle.machine.specs.Abstraction.{Past, no-past, with-painted, with-page, paint-in}
+use Rattle.machine.specs.Abstraction.{Past, no-past, with-painted, with-page, paint-in, state}
+use Rattle.machine.specs.declared.machine.Machine.{Machine}
+use Rattle.path.specs.declared.builder.Path.{Path}
 use Rattle.run.specs.Sinks.{past-of, all-painted, all-shown, told}
 
 pub run-all : (n : ℕ) (s : State) → run-in-stage (n - 0) s ≡ run-in-stage n s
@@ -63,22 +65,22 @@ module _ {V : Type 0} (f : Paint → V → V) (g : V → V) where
   -- a run that ends at a step: what it ends with, what was seen, and that no step shows more than a page
   pub closes : (n i e : ℕ) (s last : State) (whole : Went) (v w : V) → i < n → ends e last ≡ step-in-stage s → run-in-stage (n - i) s ≡ whole →
       w ≡ told f g (record { paints = last .paints; pages = last .pages }) v → length (last .pages) ≤ i →
-      (e ≡ end-of whole) × (w ≡ told f g (past-of whole) v) × (length (state-of whole .pages) ≤ n)
+      (e ≡ end-of whole) × (w ≡ told f g (past-of whole) v) × (length (state-of whole .pages) ≤ n) × (last ≡ state-of whole)
   unfolding state-of end-of
   closes n i e s last whole v w lt stepped is seen few =
       let at = run-ends n i e s last lt stepped ∙ is in
       let k = ap (λ x. length (state-of x .pages)) at in
-      (ap end-of at, seen ∙ ap (λ x. told f g (past-of x) v) at, omega arith)
+      (ap end-of at, seen ∙ ap (λ x. told f g (past-of x) v) at, omega arith, ap state-of at)
 
   -- a run whose steps are used up ends as nothing or something is left to run
   pub used-up : (n i e : ℕ) (last : State) (whole : Went) (v w : V) → n ≤ i → i ≤ n → end-of (at-end (last .frames) last) ≡ e → run-in-stage (n - i) last ≡ whole →
       w ≡ told f g (record { paints = last .paints; pages = last .pages }) v → length (last .pages) ≤ i →
-      (e ≡ end-of whole) × (w ≡ told f g (past-of whole) v) × (length (state-of whole .pages) ≤ n)
+      (e ≡ end-of whole) × (w ≡ told f g (past-of whole) v) × (length (state-of whole .pages) ≤ n) × (last ≡ state-of whole)
   used-up n i e last whole v w le ge ended is seen few =
       let at = run-over n i last le ∙ is in
       let same = sym (at-end-state (last .frames) last) ∙ ap state-of at in
       let k = ap (λ x. length (x .pages)) same in
-      (sym ended ∙ ap end-of at, seen ∙ ap (λ x. told f g (record { paints = x .paints; pages = x .pages }) v) same, omega arith)
+      (sym ended ∙ ap end-of at, seen ∙ ap (λ x. told f g (record { paints = x .paints; pages = x .pages }) v) same, omega arith, same)
 
 -- a thing painted by equal words is the same thing
 pub same-paint : {ps qs cs ds : List ℕ} {a b : ℕ} → ps ≡ qs → cs ≡ ds → a ≡ b → paint-in ps cs a ≡ paint-in qs ds b
@@ -86,3 +88,7 @@ same-paint {qs = qs} {cs = cs} {ds = ds} {a = a} e f h = ap (λ x. paint-in x cs
 
 pub page-more : (t : Past) (i : ℕ) → length (t .pages) ≤ i → length (with-page t .pages) ≤ i + 1
 page-more t i le = omega (arith, length-append (t .pages) (t .paints ∷ []))
+
+-- the machine's own state at its end, with what was painted and shown by then
+pub same-end : (m : Machine) (p : Path) (t : Past) (s : State) → state m p t ≡ s → state m p (record { paints = s .paints; pages = s .pages }) ≡ s
+same-end m p t s e = ap (λ x. state m p (record { paints = x .paints; pages = x .pages })) (sym e) ∙ e

@@ -1,7 +1,7 @@
 ghost use mathlib.Core.Path.{_≡_};
 ghost use mathlib.Core.List.{[]};
 ghost use Prim.Native.Nat.{ℕ, _+_, _%_, _≤_};
-ghost use lib.ListN.{length};
+ghost use lib.ListN.{length, replicate};
 ghost use Rattle.tokens.specs.Stored.{decode};
 ghost use Rattle.machine.specs.Machine.{begin};
 ghost use Rattle.machine.specs.Laws.{state-of, end-of};
@@ -45,6 +45,8 @@ pub struct Outcome {
 pub fn count_pages(tokens: &[u64], words: &mut [u64], clips: &mut [u64], steps: u32) -> Outcome
     requires { ⌜ 3072 ≤ length (now words) ⌝ }
     ensures pages { λ r. ⌜ r .pages ≡ length (state-of (run-in-stage steps (begin (decode (now (tokens .entry))))) .pages) ⌝ }
+    ensures words { λ _. ⌜ now (words .exit) ≡ replicate (length (now (words .entry))) 0 ⌝ }
+    ensures clips { λ _. ⌜ now (clips .exit) ≡ replicate (length (now (clips .entry))) 0 ⌝ }
     ensures ended { λ r. ⌜ ending-number (r .ending) ≡ end-of (run-in-stage steps (begin (decode (now (tokens .entry))))) ⌝ }
 {
     let mut count = PageCount { pages: 0 };

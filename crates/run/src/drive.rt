@@ -54,6 +54,7 @@ pub fn drive<'s, 'a, E: Sink>(
     ensures seen { λ _. ⌜ E·Sink .view (now (sink .exit)) ≡ told (E·Sink .paint) (E·Sink .page) (past-of (run-in-stage steps (state (now (m .entry)) (now (path .entry)) no-past))) (E·Sink .view (now (sink .entry))) ⌝ }
     ensures few { λ _. ⌜ length (state-of (run-in-stage steps (state (now (m .entry)) (now (path .entry)) no-past)) .pages) ≤ steps ⌝ }
     ensures lent { λ _. ⌜ E·Sink .lent (now (sink .exit)) ≡ E·Sink .lent (now (sink .entry)) ⌝ }
+    ensures after { λ _. ⌜ state (now (m .exit)) (now (path .exit)) (past-of (run-in-stage steps (state (now (m .entry)) (now (path .entry)) no-past))) ≡ state-of (run-in-stage steps (state (now (m .entry)) (now (path .entry)) no-past)) ⌝ }
 {
     for i in 0..steps {
         let event = match m.step(path) {

@@ -9,8 +9,8 @@
 //     words  | path | spare |             frames |  64 of 40 bytes |
 //     clips  | in force | spare |
 //
-// That is 8,704 bytes for the two arrays, whatever the job; nothing is allocated. What the words
-// of the path hold after a run is not told: who lends them clears them.
+// That is 8,704 bytes for the two arrays, whatever the job; nothing is allocated. The words of the
+// path and of the clips are 0 after a run.
 //
 // drive: how a run goes, for any sink. job: a whole run over its own arrays. count: the sink that
 // counts pages. Painting a band, keeping and listing are other sinks of crates above.

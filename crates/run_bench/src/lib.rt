@@ -4,7 +4,7 @@
 // number. No C caller is held to a `requires`, so words that are too few are refused, by the largest number.
 ghost use mathlib.Core.Path.{_≡_};
 ghost use Prim.Native.Nat.{_<_, _≤_};
-ghost use lib.ListN.{length};
+ghost use lib.ListN.{length, replicate};
 ghost use Rattle.tokens.specs.Stored.{decode};
 ghost use Rattle.tokens.specs.Stage.{stage};
 ghost use Rattle.lexer.specs.Reading.{read};
@@ -35,7 +35,8 @@ pub extern "C" fn run_count_pages(
     steps: u32,
 ) -> u64
     ensures pages { λ r. ⌜ (3072 ≤ length (now (words .entry)) → r ≡ length (state-of (run-in-stage steps (begin (decode (now (tokens .entry))))) .pages)) ⌝ }
-    ensures refused { λ r. ⌜ (length (now (words .entry)) < 3072 → r ≡ 18446744073709551615) ⌝ }
+    ensures after { λ _. ⌜ (3072 ≤ length (now (words .entry)) → (now (words .exit) ≡ replicate (length (now (words .entry))) 0) × (now (clips .exit) ≡ replicate (length (now (clips .entry))) 0)) ⌝ }
+    ensures refused { λ r. ⌜ (length (now (words .entry)) < 3072 → (r ≡ 18446744073709551615) × (now (words .exit) ≡ now (words .entry)) × (now (clips .exit) ≡ now (clips .entry))) ⌝ }
 {
     if words.len() < 3072 {
         return u64::MAX;

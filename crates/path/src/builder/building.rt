@@ -7,7 +7,7 @@ ghost use lib.ListN.{length};
 ghost use denote.Ref.{name};
 ghost use Rattle.path.specs.Path.{finished};
 ghost use Rattle.path.specs.Points.{point};
-ghost use Rattle.path.specs.Building.{rings-of, ring-of, points-of};
+ghost use Rattle.path.specs.Building.{rings-of, ring-of, points-of, words-begun, words-added};
 use super::Path;
 
 impl<'m> Path<'m> {
@@ -47,6 +47,7 @@ impl<'m> Path<'m> {
         ensures value { λ r. ⌜ r ≡ ltb (points-of (now (self .entry))) 1024 ⌝ }
         ensures rings { λ r. ⌜ rings-of (now (self .exit)) ≡ cond r (finished (rings-of (now (self .entry))) (ring-of (now (self .entry)))) (rings-of (now (self .entry))) ⌝ }
         ensures ring { λ r. ⌜ ring-of (now (self .exit)) ≡ cond r (point x y ∷ []) (ring-of (now (self .entry))) ⌝ }
+        ensures words { λ r. ⌜ now (now (self .exit) .words) ≡ cond r (words-begun (now (self .entry)) x y) (now (now (self .entry) .words)) ⌝ }
         ensures lent { λ _. ⌜ name (now (self .exit) .words) ≡ name (now (self .entry) .words) ⌝ }
     {
         if self.total >= 1024 {
@@ -69,6 +70,7 @@ impl<'m> Path<'m> {
         ensures value { λ r. ⌜ r ≡ (ltb 0 (length (ring-of (now (self .entry)))) && ltb (points-of (now (self .entry))) 1024) ⌝ }
         ensures rings { λ r. ⌜ rings-of (now (self .exit)) ≡ rings-of (now (self .entry)) ⌝ }
         ensures ring { λ r. ⌜ ring-of (now (self .exit)) ≡ cond r (ring-of (now (self .entry)) ++ (point x y ∷ [])) (ring-of (now (self .entry))) ⌝ }
+        ensures words { λ r. ⌜ now (now (self .exit) .words) ≡ cond r (words-added (now (self .entry)) x y) (now (now (self .entry) .words)) ⌝ }
         ensures lent { λ _. ⌜ name (now (self .exit) .words) ≡ name (now (self .entry) .words) ⌝ }
     {
         if self.last == 0 || self.total >= 1024 {

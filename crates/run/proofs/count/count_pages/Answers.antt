@@ -47,4 +47,4 @@ exact k n t e few small =
 pub returns : need.returns
 returns c =
     let t = past-of (run-in-stage (c .args .steps) (begin (decode (c .args .tokens .now)))) in
-    record { pages = exact _ (c .args .steps) t (c .run-job-ending .ensures .seen) (c .run-job-ending .ensures .few) (omega arith); ended = c .run-job-ending .ensures .ended }
+    record { pages = exact _ (c .args .steps) t (c .run-job-ending .ensures .seen) (c .run-job-ending .ensures .few) (omega arith); words = c .run-job-ending .ensures .words; clips = c .run-job-ending .ensures .clips; ended = c .run-job-ending .ensures .ended }

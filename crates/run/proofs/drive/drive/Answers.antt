@@ -3,7 +3,7 @@ use mathlib.Core.Path.{refl, sym, ap, _∙_}
 use Rattle.machine.specs.Stage.{unsupported}
 use Rattle.machine.specs.Abstraction.{no-past, with-painted, with-page, state, thing-of, after-event, fault-number}
 use Rattle.tokens.specs.Stored.{operator-of}
-use Rattle.run.proofs.Driving.{run-all, run-on, told-none, told-painted, told-page, closes, used-up, same-paint, page-more}
+use Rattle.run.proofs.Driving.{run-all, run-on, told-none, told-painted, told-page, closes, used-up, same-paint, page-more, same-end}
 use Rattle.run.proofs.drive.drive.Needs.{in-On, in-Painted, in-Shown}
 use Rattle.run.proofs.drive.drive.Needs as need
 
@@ -17,7 +17,7 @@ returns-in-Finished g c =
     let m = c .step .last .self in
     let p = c .step .last .path in
     let q = closes (g .E·Sink .paint) (g .E·Sink .page) (c .args .steps) (c .loop-i .i) (0) (state (c .loop-i .m) (c .loop-i .path) t) (state m p t) _ _ _ (omega arith) (ap (λ e. after-event e m p t) (sym (c .in-Finished .is)) ∙ c .in-Ok .ensures tt t) (inv .1) (inv .2) (inv .3) in
-    record { ended = q .0; seen = q .1; few = q .2; lent = inv .4 }
+    record { ended = q .0; seen = q .1; few = q .2; lent = inv .4; after = same-end m p t _ (q .3) }
 
 pub returns-in-Unsupported : need.returns-in-Unsupported
 returns-in-Unsupported g c =
@@ -26,7 +26,7 @@ returns-in-Unsupported g c =
     let m = c .step .last .self in
     let p = c .step .last .path in
     let q = closes (g .E·Sink .paint) (g .E·Sink .page) (c .args .steps) (c .loop-i .i) (unsupported (operator-of (c .in-Unsupported .op))) (state (c .loop-i .m) (c .loop-i .path) t) (state m p t) _ _ _ (omega arith) (ap (λ e. after-event e m p t) (sym (c .in-Unsupported .is)) ∙ c .in-Ok .ensures tt t) (inv .1) (inv .2) (inv .3) in
-    record { ended = q .0; seen = q .1; few = q .2; lent = inv .4 }
+    record { ended = q .0; seen = q .1; few = q .2; lent = inv .4; after = same-end m p t _ (q .3) }
 
 pub returns-in-Err : need.returns-in-Err
 returns-in-Err g c =
@@ -35,7 +35,7 @@ returns-in-Err g c =
     let m = c .step .last .self in
     let p = c .step .last .path in
     let q = closes (g .E·Sink .paint) (g .E·Sink .page) (c .args .steps) (c .loop-i .i) (fault-number (c .in-Err .fault)) (state (c .loop-i .m) (c .loop-i .path) t) (state m p t) _ _ _ (omega arith) (c .in-Err .ensures tt t) (inv .1) (inv .2) (inv .3) in
-    record { ended = q .0; seen = q .1; few = q .2; lent = inv .4 }
+    record { ended = q .0; seen = q .1; few = q .2; lent = inv .4; after = same-end m p t _ (q .3) }
 
 -- a step that paints or shows has one thing or one page more
 pub loop-i-again : need.loop-i-again
@@ -80,11 +80,11 @@ returns-then-is-finished g c =
     let inv = c .loop-i .inv in
     let last = state (c .loop-i .m) (c .loop-i .path) (inv .0) in
     let q = used-up (g .E·Sink .paint) (g .E·Sink .page) (c .args .steps) (c .loop-i .i) 0 last _ _ _ (omega arith) (omega arith) (c .if-is-finished .ensures tt last) (inv .1) (inv .2) (inv .3) in
-    record { ended = q .0; seen = q .1; few = q .2; lent = inv .4 }
+    record { ended = q .0; seen = q .1; few = q .2; lent = inv .4; after = same-end (c .loop-i .m) (c .loop-i .path) (inv .0) _ (q .3) }
 
 pub returns-else-is-finished : need.returns-else-is-finished
 returns-else-is-finished g c =
     let inv = c .loop-i .inv in
     let last = state (c .loop-i .m) (c .loop-i .path) (inv .0) in
     let q = used-up (g .E·Sink .paint) (g .E·Sink .page) (c .args .steps) (c .loop-i .i) 8 last _ _ _ (omega arith) (omega arith) (c .if-is-finished .ensures tt last) (inv .1) (inv .2) (inv .3) in
-    record { ended = q .0; seen = q .1; few = q .2; lent = inv .4 }
+    record { ended = q .0; seen = q .1; few = q .2; lent = inv .4; after = same-end (c .loop-i .m) (c .loop-i .path) (inv .0) _ (q .3) }

@@ -1,6 +1,6 @@
 use borrow.Author.Needs.{needs}
 use native.Mathlib.Omega.{arith}
-use mathlib.Core.Path.{sym}
+use mathlib.Core.Path.{refl, sym}
 use Prim.Native.Nat.{_+_}
 use lib.Dec.{ltb}
 use lib.ListN.{set, length}
@@ -24,7 +24,7 @@ returns-then-self-eq0 c =
           ];
       rings = search needs;
       ring = search needs;
-      lent = search needs;
+      words = refl; lent = search needs;
     }
 
 pub ghost-self : need.ghost-self
@@ -48,5 +48,5 @@ returns c =
       value = sym (and-from (ltb 0 (length (ring-of p))) (ltb (points-of p) 1024) (lt-ltb 0 (length (ring-of p)) (omega arith)) (lt-ltb (points-of p) 1024 (omega arith)));
       rings = rings-added (now (p .words)) (p .start) (p .last) (p .used) (p .total) (c .args .x) (c .args .y) (laid-of p);
       ring = ring-added (now (p .words)) (p .start) (p .last) (p .used) (p .total) (c .args .x) (c .args .y) (laid-of p) (omega arith) (omega arith) (omega arith) (omega arith);
-      lent = search needs;
+      words = refl; lent = search needs;
     }

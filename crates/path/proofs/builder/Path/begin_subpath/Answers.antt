@@ -1,6 +1,6 @@
 use borrow.Author.Needs.{needs}
 use native.Mathlib.Omega.{arith}
-use mathlib.Core.Path.{sym}
+use mathlib.Core.Path.{refl, sym}
 use Prim.Native.Nat.{_+_}
 use lib.ListN.{set}
 use denote.Ref.{now}
@@ -13,7 +13,7 @@ pub returns-then-self-ge1024 : need.returns-then-self-ge1024
 returns-then-self-ge1024 c =
     let p = c .args .self .now in
     let t = total-is p in
-    record { value = sym (le-ltb (points-of p) 1024 (omega arith)); rings = search needs; ring = search needs; lent = search needs }
+    record { value = sym (le-ltb (points-of p) 1024 (omega arith)); rings = search needs; ring = search needs; words = refl; lent = search needs }
 
 pub ghost-self : need.ghost-self
 ghost-self c = let p = c .args .self .now in spare (now (p .words)) (p .start) (p .last) (p .used) (p .total) (p .used) 1 (omega arith) (laid-of p)
@@ -35,5 +35,5 @@ returns c =
       value = sym (lt-ltb (points-of p) 1024 (omega arith));
       rings = rings-begun (now (p .words)) (p .start) (p .last) (p .used) (p .total) (c .args .x) (c .args .y) (laid-of p);
       ring = ring-begun (now (p .words)) (p .used) (c .args .x) (c .args .y) (omega arith) (omega arith) (omega arith);
-      lent = search needs;
+      words = refl; lent = search needs;
     }
