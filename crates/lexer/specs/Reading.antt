@@ -7,7 +7,7 @@ use lib.Dec.{ltb, leb, eqb}
 use lib.ListN.{length}
 use Rattle.tokens.specs.Token.{Token, number, does, name, quoted, body, Tokens, none, more, turned, Operator, number-of, adds, takes, multiplies, divides, is-less, copies, drops, swaps, defines, repeats, when, moves, lines, fills, clips-by, greys, shifts, scales, keeps, back, shows}
 
--- a piece of text, with the byte at which it begins; for a number and a word, where it ends
+-- a piece of text (the code's lexeme), with the byte at which it begins; `wrong` is a byte that cannot stand where it stands
 pub data Piece : Type 0 where
   opens : ℕ → Piece
   closes : ℕ → Piece
@@ -16,7 +16,7 @@ pub data Piece : Type 0 where
   slashed : ℕ → List ℕ → Piece
   wrong : ℕ → Piece
 
--- in the middle of what: of nothing, a number, a word, a quoted word, a remark
+-- what is being read at a byte: nothing, a number, a word, a quoted word, a remark
 pub data Within : Type 0 where
   between : Within
   a-number : ℕ → ℕ → Within
@@ -84,7 +84,7 @@ pieces (b ∷ bs) n w =
     (cond (is-brace b) (finished w n ++ (braces b n ++ pieces bs (suc n) between))
     (cond (is-between w && may-begin b) (pieces bs (suc n) (begun b n)) (finished w n ++ (wrong n ∷ pieces bs (suc n) between)))))
 
--- 1: the first piece that is wrong, a brace that closes nothing, or the text's length if a brace is left open
+-- refusal 1: the first piece that is wrong, a brace that closes nothing, or the text's length if a brace is left open
 pub data Fault : Type 0 where
   fine : Fault
   at : ℕ → Fault
@@ -98,7 +98,7 @@ cannot-read (digits n v ∷ ps) len left = cannot-read ps len left
 cannot-read (word n w ∷ ps) len left = cannot-read ps len left
 cannot-read (slashed n w ∷ ps) len left = cannot-read ps len left
 
--- words
+-- whether two words are the same, letter by letter
 unfoldable pub same-word : List ℕ → List ℕ → Bool
 same-word [] [] = true
 same-word [] (b ∷ bs) = false
@@ -146,7 +146,7 @@ unfoldable pub with-word : List (List ℕ) → List ℕ → List (List ℕ)
 with-word [] w = w ∷ []
 with-word (v ∷ vs) w = cond (same-word v w) (v ∷ vs) (v ∷ with-word vs w)
 
--- 2: the first piece that is above a limit: how deep, how many tokens, how many names, a number, an operator that can't be done. A brace counts as a token
+-- refusal 2: the first piece that is above a limit: how deep, how many tokens, how many names, a number, an operator that cannot be done. A brace counts as a token
 unfoldable pub word-limit : Found → (ℕ → Bool) → List (List ℕ) → List ℕ → Bool
 word-limit (operator o) can ws w = can (number-of o)
 word-limit no-operator can ws w = ltb (place-of ws w) 256
@@ -180,7 +180,7 @@ build (digits n v ∷ ps) ws cur outer = build ps ws (number v ∷ cur) outer
 build (slashed n w ∷ ps) ws cur outer = build ps (with-word ws w) (quoted (place-of ws w) ∷ cur) outer
 build (word n w ∷ ps) ws cur outer = build ps (words-after (as-operator w) ws w) (as-token (as-operator w) ws w ∷ cur) outer
 
--- a text is turned away, by 1 at the first thing that can't be read, else by 2 at the first that is above a limit; or it is tokens
+-- a text is refused, by 1 at the first thing that cannot be read, else by 2 if it is too long or at the first thing above a limit; or it is tokens
 pub data Read : Type 0 where
   refused : ℕ → ℕ → Read
   tokens : Tokens → Read

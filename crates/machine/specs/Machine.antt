@@ -14,7 +14,7 @@ pub data Value : Type 0 where
   code : Tokens → Value
   label : ℕ → Value
 
--- how things are drawn: grey, scale in sixteenths of a dot, where the corner is, and what clips
+-- the graphics state: grey, scale in sixteenths of a dot, where the corner is, and the clips
 pub record Manner : Type 0 where
   pub grey : ℕ
   pub scale : ℕ
@@ -67,7 +67,7 @@ abbrev pub with-paints : State → List Paint → List (List Paint) → State
 with-paints s ps gs = record { stack = s .stack; names = s .names; rings = s .rings; ring = s .ring; manner = s .manner; saved = s .saved; paints = ps; pages = gs; frames = s .frames }
 
 -- faults: 1 too little on the stack, 2 another kind than is wanted, 3 a number out of range, 4 a name that means nothing, 5 no point to go on from,
--- 6 restore without save, 7 too much: stack, points, saved, frames
+-- 6 no kept state to go back to, 7 too much: stack, frames, points, kept states, clips; 8 is the steps used up
 abbrev pub push : State → List Value → Value → Went
 push s vs v = cond (ltb (length vs) 256) (on (with-stack s (v ∷ vs))) (ends 7 s)
 
