@@ -14,6 +14,7 @@ use Rattle.std.proofs.shelf.Bits.{div-below, mod-below, div-add-mod'}
 use Rattle.std.proofs.shelf.Tests.{cases-lt}
 use Rattle.bits.proofs.PartLaws.{put-before, put-in, put-past}
 use Rattle.path.specs.Path.{Paint}
+use Rattle.raster.specs.Band.{Painted-band}
 use Rattle.raster.specs.Coverage.{covers, dot-on, dot, row, rows}
 
 -- what is painted last is on top
@@ -104,13 +105,11 @@ banded-more f was bytes part w start r above fits b len painted =
       λ i le. put-past (r * w) (r * w + w - r * w) bytes part i 0 (omega arith) all (omega arith) ∙ b .2 i (omega arith),
     )
 
--- a band of n rows of which those from start up to before end are painted and the others have nothing to paint
-pub band-painted : (was bytes : List ℕ) (w y n start end : ℕ) (t : Paint) → length bytes ≡ length was → n * w ≤ length was →
-    ((r x : ℕ) → start ≤ r → r < end → x < w → getD bytes (r * w + x) 0 ≡ cond (covers t x (y + r)) (t .grey) (getD was (r * w + x) 0)) →
-    ((i : ℕ) → i < start * w → getD bytes i 0 ≡ getD was i 0) → ((i : ℕ) → end * w ≤ i → getD bytes i 0 ≡ getD was i 0) → end ≤ n →
-    ((r x : ℕ) → r < start → covers t x (y + r) ≡ false) → ((r x : ℕ) → end ≤ r → r < n → covers t x (y + r) ≡ false) →
+-- the rows of some things and of one more, dot by dot
+painted-more : (was bytes : List ℕ) (w y n : ℕ) (t : Paint) → length bytes ≡ length was → n * w ≤ length was →
+    ((r x : ℕ) → r < n → x < w → getD bytes (r * w + x) 0 ≡ cond (covers t x (y + r)) (t .grey) (getD was (r * w + x) 0)) → ((i : ℕ) → n * w ≤ i → getD bytes i 0 ≡ getD was i 0) →
     (ps : List Paint) → take (n * w) was ≡ rows ps w y n → bytes ≡ rows (ps ++ (t ∷ [])) w y n ++ drop (n * w) was
-band-painted was bytes w y n start end t same fits value before rest order over under ps e =
+painted-more was bytes w y n t same fits one behind ps e =
     let new = rows (ps ++ (t ∷ [])) w y n in
     let l = length-rows (ps ++ (t ∷ [])) w y n in
     let d = length-drop (n * w) was in
@@ -120,8 +119,6 @@ band-painted was bytes w y n start end t same fits value before rest order over 
     elim (cases-lt i (n * w)) [
       | inl within ↦
           let some : 0 < w = elim (cases-lt 0 w) [ inl h ↦ h | inr h ↦ let z : w ≡ 0 = omega arith in let p : n * w ≡ n * 0 = ap (λ k. n * k) z in omega arith ] in
-          let r = i / w in
-          let x = i % w in
           let lr : i / w < n = div-below i w n some within in
           let lx : i % w < w = mod-below i w some in
           let place : i / w * w + i % w ≡ i = div-add-mod' i w in
@@ -134,12 +131,20 @@ band-painted was bytes w y n start end t same fits value before rest order over 
           ∙ sym (getD-append-left new (drop (n * w) was) 0 i (omega arith))
       | inr past ↦
           let k : n * w + (i - n * w) ≡ i = omega arith in
-          let o = mul-le-mul-right {m = end} {n = n} w order in
-          rest i (omega arith)
+          behind i past
           ∙ sym (ap (λ m. getD was m 0) k)
           ∙ sym (getD-drop (n * w) was (i - n * w) 0)
           ∙ sym (getD-append-right new (drop (n * w) was) (n * w) i 0 l past)
     ])
+
+-- a band of n rows of which those from start up to before end are painted and the others have nothing to paint
+pub band-painted : (was bytes : List ℕ) (w y n start end : ℕ) (t : Paint) → length bytes ≡ length was → n * w ≤ length was →
+    ((r x : ℕ) → start ≤ r → r < end → x < w → getD bytes (r * w + x) 0 ≡ cond (covers t x (y + r)) (t .grey) (getD was (r * w + x) 0)) →
+    ((i : ℕ) → i < start * w → getD bytes i 0 ≡ getD was i 0) → ((i : ℕ) → end * w ≤ i → getD bytes i 0 ≡ getD was i 0) → end ≤ n →
+    ((r x : ℕ) → r < start → covers t x (y + r) ≡ false) → ((r x : ℕ) → end ≤ r → r < n → covers t x (y + r) ≡ false) →
+    Painted-band was bytes w y n t
+band-painted was bytes w y n start end t same fits value before rest order over under =
+    record { dots = one; rest = behind; more = λ ps e. painted-more was bytes w y n t same fits one behind ps e }
   where
     one : (r x : ℕ) → r < n → x < w → getD bytes (r * w + x) 0 ≡ cond (covers t x (y + r)) (t .grey) (getD was (r * w + x) 0)
     one r x lr lx =
@@ -151,6 +156,9 @@ band-painted was bytes w y n start end t same fits value before rest order over 
                 | inr late ↦ let b = mul-le-mul-right {m = end} {n = r} w late in rest (r * w + x) (omega arith) ∙ sym (ap (λ c. cond c (t .grey) (getD was (r * w + x) 0)) (under r x late lr))
               ]
         ]
+
+    behind : (i : ℕ) → n * w ≤ i → getD bytes i 0 ≡ getD was i 0
+    behind i le = let o = mul-le-mul-right {m = end} {n = n} w order in rest i (omega arith)
 
 -- the front of an array of zeros
 pub zeros-length : (n : ℕ) → n ≤ 128 → length (take (n - 0) (drop 0 (replicate {A = ℕ} 128 0))) ≡ n

@@ -1,3 +1,4 @@
+pub mod Band
 pub mod Coverage
 pub mod Laws
 pub mod Levels

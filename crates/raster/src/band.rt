@@ -1,11 +1,10 @@
 ghost use mathlib.Core.Path.{_≡_};
 ghost use mathlib.Core.Bool.{cond};
-ghost use mathlib.Core.List.{List, [], _∷_, _++_};
 ghost use Prim.Native.Nat.{ℕ, _+_, _*_, _-_, _/_, _<_, _≤_};
-ghost use lib.ListN.{length, getD, take, drop};
+ghost use lib.ListN.{length, getD};
 ghost use Rattle.bits.specs.Row.{Empty};
-ghost use Rattle.path.specs.Path.{Paint};
-ghost use Rattle.raster.specs.Coverage.{covers, rows};
+ghost use Rattle.raster.specs.Coverage.{covers};
+ghost use Rattle.raster.specs.Band.{Painted-band};
 ghost use Rattle.raster.specs.Thing.{thing};
 use super::coverage::paint_row;
 use super::levels::levels_of;
@@ -99,7 +98,7 @@ pub fn paint_band(
 )
     requires len { ⌜ (count * width ≤ length (now bytes)) × (width ≤ 8192) ⌝ }
     requires near { ⌜ first + count ≤ 65536 ⌝ }
-    ensures { λ _. ⌜ ((ps : List Paint) → take (count * width) (now (bytes .entry)) ≡ rows ps width first count → now (bytes .exit) ≡ rows (ps ++ (thing (now (path .entry)) (now (clips .entry)) grey ∷ [])) width first count ++ drop (count * width) (now (bytes .entry))) ⌝ }
+    ensures { λ _. ⌜ Painted-band (now (bytes .entry)) (now (bytes .exit)) width first count (thing (now (path .entry)) (now (clips .entry)) grey) ⌝ }
 {
     let levels = narrowed(levels_of(path), clips);
     let start = rows_above(levels.top, first).min(count);

@@ -5,11 +5,9 @@
 // `requires`, so what does not fit is refused and nothing is written.
 ghost use mathlib.Core.Path.{_≡_};
 ghost use mathlib.Core.Bool.{true, false};
-ghost use mathlib.Core.List.{List, [], _∷_, _++_};
 ghost use Prim.Native.Nat.{_+_, _*_, _≤_};
-ghost use lib.ListN.{length, take, drop};
-ghost use Rattle.path.specs.Path.{Paint};
-ghost use Rattle.raster.specs.Coverage.{rows};
+ghost use lib.ListN.{length};
+ghost use Rattle.raster.specs.Band.{Painted-band};
 ghost use Rattle.raster.specs.Thing.{thing};
 use raster::band::paint_band;
 
@@ -23,7 +21,7 @@ pub extern "C" fn raster_paint_band(
     first: u32,
     count: usize,
 ) -> bool
-    ensures after { λ r. ⌜ (r ≡ true → (ps : List Paint) → take (count * width) (now (bytes .entry)) ≡ rows ps width first count → now (bytes .exit) ≡ rows (ps ++ (thing (now (path .entry)) (now (clips .entry)) grey ∷ [])) width first count ++ drop (count * width) (now (bytes .entry))) ⌝ }
+    ensures after { λ r. ⌜ (r ≡ true → Painted-band (now (bytes .entry)) (now (bytes .exit)) width first count (thing (now (path .entry)) (now (clips .entry)) grey)) ⌝ }
     ensures refused { λ r. ⌜ (r ≡ false → now (bytes .exit) ≡ now (bytes .entry)) ⌝ }
     ensures cases { λ r. ⌜ (width ≤ 8192 → first + count ≤ 65536 → count * width ≤ length (now (bytes .entry)) → r ≡ true) ⌝ }
 {

@@ -24,7 +24,8 @@ returns-then-self-eq0 c =
           ];
       rings = search needs;
       ring = search needs;
-      words = refl; lent = search needs;
+      words = refl;
+      lent = search needs;
     }
 
 pub ghost-self : need.ghost-self
@@ -48,5 +49,6 @@ returns c =
       value = sym (and-from (ltb 0 (length (ring-of p))) (ltb (points-of p) 1024) (lt-ltb 0 (length (ring-of p)) (omega arith)) (lt-ltb (points-of p) 1024 (omega arith)));
       rings = rings-added (now (p .words)) (p .start) (p .last) (p .used) (p .total) (c .args .x) (c .args .y) (laid-of p);
       ring = ring-added (now (p .words)) (p .start) (p .last) (p .used) (p .total) (c .args .x) (c .args .y) (laid-of p) (omega arith) (omega arith) (omega arith) (omega arith);
-      words = refl; lent = search needs;
+      words = refl;
+      lent = search needs;
     }

@@ -35,5 +35,6 @@ returns c =
       value = sym (lt-ltb (points-of p) 1024 (omega arith));
       rings = rings-begun (now (p .words)) (p .start) (p .last) (p .used) (p .total) (c .args .x) (c .args .y) (laid-of p);
       ring = ring-begun (now (p .words)) (p .used) (c .args .x) (c .args .y) (omega arith) (omega arith) (omega arith);
-      words = refl; lent = search needs;
+      words = refl;
+      lent = search needs;
     }
