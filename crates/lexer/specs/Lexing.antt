@@ -16,13 +16,13 @@ from s i = pieces (drop i s) i between
 
 -- the lexeme at byte i, and the byte j behind it. Digits count up to a cap; something wrong ends all reading at its place
 abbrev pub Saw : List ℕ → ℕ → Lexeme → ℕ → Type 0
-Saw s i End j = from s i ≡ []
+Saw s i End j = (j ≡ length s) × (from s i ≡ [])
 Saw s i (Open p) j = (i < j) × (j ≤ length s) × (from s i ≡ opens p ∷ from s j)
 Saw s i (Close p) j = (i < j) × (j ≤ length s) × (from s i ≡ closes p ∷ from s j)
 Saw s i (Number p v) j = (i < j) × (j ≤ length s) × ((n : ℕ) × (v ≡ min n 2147483648) × (from s i ≡ digits p n ∷ from s j))
 Saw s i (Word p w) j = (i < j) × (j ≤ length s) × (from s i ≡ word p (now w) ∷ from s j)
 Saw s i (Quoted p w) j = (i < j) × (j ≤ length s) × (from s i ≡ slashed p (now w) ∷ from s j)
-Saw s i (Wrong p) j = (len left : ℕ) → cannot-read (from s i) len left ≡ at p
+Saw s i (Wrong p) j = (j ≡ p) × ((len left : ℕ) → cannot-read (from s i) len left ≡ at p)
 
 -- whether a number or a word may end before byte i: the text ends there, or a space, an end of line or a brace stands there
 abbrev pub ends-at : List ℕ → ℕ → Bool

@@ -157,12 +157,8 @@ fn word_at<'a>(source: &'a [u8], place: usize) -> (Lexeme<'a>, usize)
 {
     let end = letters_end(source, place);
     if end - place > LETTERS {
-        return (
-            Lexeme::Wrong {
-                place: place + LETTERS,
-            },
-            end,
-        );
+        let last = place + LETTERS;
+        return (Lexeme::Wrong { place: last }, last);
     }
     if !may_end(source, end) {
         return (Lexeme::Wrong { place: end }, end);
@@ -186,12 +182,8 @@ fn quoted_at<'a>(source: &'a [u8], place: usize) -> (Lexeme<'a>, usize)
         return (Lexeme::Wrong { place: end }, end);
     }
     if end - start > LETTERS {
-        return (
-            Lexeme::Wrong {
-                place: start + LETTERS,
-            },
-            end,
-        );
+        let last = start + LETTERS;
+        return (Lexeme::Wrong { place: last }, last);
     }
     if !may_end(source, end) {
         return (Lexeme::Wrong { place: end }, end);
@@ -211,7 +203,7 @@ pub fn lexeme_at<'a>(source: &'a [u8], at: usize) -> (Lexeme<'a>, usize)
 {
     let place = skip_blanks(source, at);
     if place >= source.len() {
-        return (Lexeme::End, place);
+        return (Lexeme::End, source.len());
     }
     let b = source[place];
     if b == b'{' {

@@ -118,10 +118,10 @@ next-piece s i j len left p (Close k) h e f =
 next-piece s i j len left p (Number k v) h e f = record { piece = digits k (h .2 .0); stands = (h .2 .0, h .2 .1, refl); on = h .0; within = h .1; is = h .2 .2; left = left; readable = sym (ap (λ z. cannot-read z len left) (h .2 .2)) ∙ f }
 next-piece s i j len left p (Word k w) h e f = record { piece = word k (now w); stands = refl; on = h .0; within = h .1; is = h .2; left = left; readable = sym (ap (λ z. cannot-read z len left) (h .2)) ∙ f }
 next-piece s i j len left p (Quoted k w) h e f = record { piece = slashed k (now w); stands = refl; on = h .0; within = h .1; is = h .2; left = left; readable = sym (ap (λ z. cannot-read z len left) (h .2)) ∙ f }
-next-piece s i j len left p (Wrong k) h e f = absurd (not-fine k (sym (h len left) ∙ f))
+next-piece s i j len left p (Wrong k) h e f = absurd (not-fine k (sym (h .1 len left) ∙ f))
 
 pub at-the-end : (s : List ℕ) (i j : ℕ) (x : Lexeme) → Saw s i x j → place-in x ≡ None → from s i ≡ []
-at-the-end s i j End h e = h
+at-the-end s i j End h e = h .1
 at-the-end s i j (Open k) h e = let z : _≡_ {A = ℕ} 0 1 = cc in absurd (omega arith)
 at-the-end s i j (Close k) h e = let z : _≡_ {A = ℕ} 0 1 = cc in absurd (omega arith)
 at-the-end s i j (Number k v) h e = let z : _≡_ {A = ℕ} 0 1 = cc in absurd (omega arith)

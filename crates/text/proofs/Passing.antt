@@ -54,10 +54,10 @@ pub ends-closed : (s : List ℕ) (i j len left : ℕ) → Saw s i End j → left
 unfolding cannot-read
 ends-closed s i j len left h l =
     let t : eqb left 0 ≡ true = eq-eqb _ _ l in
-    ap (λ z. cannot-read z len left) h ∙ simp t
+    ap (λ z. cannot-read z len left) (h .1) ∙ simp t
 
 pub ends-open : (s : List ℕ) (i j len left : ℕ) → Saw s i End j → (left ≡ 0 → ⊥) → cannot-read (from s i) len left ≡ at len
 unfolding cannot-read
 ends-open s i j len left h l =
     let t : eqb left 0 ≡ false = ne-eqb _ _ l in
-    ap (λ z. cannot-read z len left) h ∙ simp t
+    ap (λ z. cannot-read z len left) (h .1) ∙ simp t

@@ -1,4 +1,4 @@
-use mathlib.Core.Path.{_≡_, sym, ap, _∙_}
+use mathlib.Core.Path.{_≡_, refl, sym, ap, _∙_}
 use mathlib.Core.Bool.{true, false}
 use native.Mathlib.Omega.{arith}
 use lib.ListN.{getD}
@@ -10,7 +10,7 @@ use Rattle.lexer.proofs.lexeme_at.Needs as need
 
 pub returns-then-place-source : need.returns-then-place-source
 unfolding finished
-returns-then-place-source c = c .skip-blanks-place .ensures .rest ∙ at-end (c .args .source .now) (c .skip-blanks-place .result) between (omega arith)
+returns-then-place-source c = (refl, c .skip-blanks-place .ensures .rest ∙ at-end (c .args .source .now) (c .skip-blanks-place .result) between (omega arith))
 
 pub returns-then-b-eq123 : need.returns-then-b-eq123
 returns-then-b-eq123 c =
@@ -35,4 +35,4 @@ returns c =
     let l : is-letter (getD s i 0) ≡ false = sym (c .if-letter .ensures tt) in
     let b : is-brace (getD s i 0) ≡ false = grind (arith, tells) in
     let m : may-begin (getD s i 0) ≡ false = grind (arith, tells) in
-    wrong-first _ _ i (c .skip-blanks-place .ensures .rest ∙ wrong-is s i (omega arith) (stops .0) b m)
+    (refl, wrong-first _ _ i (c .skip-blanks-place .ensures .rest ∙ wrong-is s i (omega arith) (stops .0) b m))

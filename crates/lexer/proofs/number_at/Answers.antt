@@ -17,9 +17,9 @@ returns-then-may-end c =
 
 pub returns-else-may-end : need.returns-else-may-end
 unfolding goes-on finished is-between cannot-read
-returns-else-may-end c = λ len left.
+returns-else-may-end c =
     let s = c .args .source .now in
     let p = c .args .place in
     let found = c .scan-digits-value in
     let n = found .ensures .value p in
-    ap (λ z. cannot-read z len left) (stuck s p (found .result .1) (a-number p (n .0)) refl (number-begins s p (c .pre .0) (c .pre .1) ∙ n .2) (found .ensures .stops) (sym (c .if-may-end .ensures tt)))
+    (refl, λ len left. ap (λ z. cannot-read z len left) (stuck s p (found .result .1) (a-number p (n .0)) refl (number-begins s p (c .pre .0) (c .pre .1) ∙ n .2) (found .ensures .stops) (sym (c .if-may-end .ensures tt))))

@@ -17,7 +17,7 @@ returns-then-end-start c =
     let p = c .args .place in
     let found = c .letters-end-end .ensures in
     let r = c .letters-end-end .result in
-    quoted-empty s p r (omega arith) (quoted-run s p r (c .pre .0) (c .pre .1) (found .bound) (found .places)) (found .stops)
+    (refl, quoted-empty s p r (omega arith) (quoted-run s p r (c .pre .0) (c .pre .1) (found .bound) (found .places)) (found .stops))
 
 pub returns-then-end-start-gt-LETTERS : need.returns-then-end-start-gt-LETTERS
 unfolding goes-on is-between
@@ -28,7 +28,7 @@ returns-then-end-start-gt-LETTERS c =
     let r = c .letters-end-end .result in
     let w = take (r - (p + 1)) (drop (p + 1) s) in
     let inside : r ≤ length s = found .within (omega arith) in
-    letters-long s p (p + 1) r (a-quoted p w) (slashed p w) refl (found .bound) inside (quoted-finished s p r (omega arith) inside) (quoted-run s p r (c .pre .0) (c .pre .1) (found .bound) (found .places)) (found .stops) (omega arith)
+    (refl, letters-long s p (p + 1) r (a-quoted p w) (slashed p w) refl (found .bound) inside (quoted-finished s p r (omega arith) inside) (quoted-run s p r (c .pre .0) (c .pre .1) (found .bound) (found .places)) (found .stops) (omega arith))
 
 pub returns-then-not-may-end : need.returns-then-not-may-end
 unfolding goes-on is-between cannot-read
@@ -38,9 +38,11 @@ returns-then-not-may-end c =
     let found = c .letters-end-end .ensures in
     let r = c .letters-end-end .result in
     let w = take (r - (p + 1)) (drop (p + 1) s) in
-    let inside : r ≤ length s = found .within (omega arith) in
-    letters-stuck s p (p + 1) r (a-quoted p w) (slashed p w) refl (found .bound) inside (quoted-finished s p r (omega arith) inside) (quoted-run s p r (c .pre .0) (c .pre .1) (found .bound) (found .places)) (found .stops) (λ qs len left. refl) (omega arith)
-    (sym (c .if-not-may-end .ensures tt))
+    let inside : r ≤ length s = found .within (omega arith) in (
+      refl,
+      letters-stuck s p (p + 1) r (a-quoted p w) (slashed p w) refl (found .bound) inside (quoted-finished s p r (omega arith) inside) (quoted-run s p r (c .pre .0) (c .pre .1) (found .bound) (found .places)) (found .stops) (λ qs len left. refl) (omega arith)
+          (sym (c .if-not-may-end .ensures tt)),
+    )
 
 pub part-result-end : need.part-result-end
 part-result-end c = c .letters-end-end .ensures .within (omega arith)

@@ -14,7 +14,7 @@ returns-then-end-place-gt-LETTERS c =
     let found = c .letters-end-end .ensures in
     let r = c .letters-end-end .result in
     let w = take (r - p) (drop p s) in
-    letters-long s p p r (a-word p w) (word p w) refl (found .bound) (found .within (omega arith)) refl (word-run s p r (c .pre .0) (c .pre .1) (found .bound) (found .places)) (found .stops) (omega arith)
+    (refl, letters-long s p p r (a-word p w) (word p w) refl (found .bound) (found .within (omega arith)) refl (word-run s p r (c .pre .0) (c .pre .1) (found .bound) (found .places)) (found .stops) (omega arith))
 
 pub returns-then-not-may-end : need.returns-then-not-may-end
 unfolding goes-on finished is-between cannot-read
@@ -23,9 +23,11 @@ returns-then-not-may-end c =
     let p = c .args .place in
     let found = c .letters-end-end .ensures in
     let r = c .letters-end-end .result in
-    let w = take (r - p) (drop p s) in
-    letters-stuck s p p r (a-word p w) (word p w) refl (found .bound) (found .within (omega arith)) refl (word-run s p r (c .pre .0) (c .pre .1) (found .bound) (found .places)) (found .stops) (λ qs len left. refl) (omega arith)
-    (sym (c .if-not-may-end .ensures tt))
+    let w = take (r - p) (drop p s) in (
+      refl,
+      letters-stuck s p p r (a-word p w) (word p w) refl (found .bound) (found .within (omega arith)) refl (word-run s p r (c .pre .0) (c .pre .1) (found .bound) (found .places)) (found .stops) (λ qs len left. refl) (omega arith)
+          (sym (c .if-not-may-end .ensures tt)),
+    )
 
 pub part-result-end : need.part-result-end
 part-result-end c = c .letters-end-end .ensures .within (omega arith)

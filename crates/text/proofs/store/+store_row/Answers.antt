@@ -30,8 +30,8 @@ returns-in-End t c =
     let Row : List Piece → Type 0 = λ qs. Part (length s) (32 - c .args .depth) (from s (c .args .start .at)) (known-in (c .args .names .now) (c .args .start .known)) (c .args .start .used) (c .args .words .now) qs ws (p .used) (c .loop-p .words) in
     let saw : from s (p .at) ≡ [] =
     elim (c .in-End .is) [
-      | inl e ↦ subst (λ z. Saw s (p .at) z j) e (c .lexeme-at-next .ensures)
-      | inr e ↦ absurd (not-fine (e .0) (sym (subst (λ z. Saw s (p .at) z j) (e .1) (c .lexeme-at-next .ensures) (length s) (32 - c .args .depth)) ∙ c .loop-p .inv .2 .ready .readable))
+      | inl e ↦ subst (λ z. Saw s (p .at) z j) e (c .lexeme-at-next .ensures) .1
+      | inr e ↦ absurd (not-fine (e .0) (sym (subst (λ z. Saw s (p .at) z j) (e .1) (c .lexeme-at-next .ensures) .1 (length s) (32 - c .args .depth)) ∙ c .loop-p .inv .2 .ready .readable))
     ] in
     let whole = part-end (length s) (32 - c .args .depth) (from s (c .args .start .at)) (known-in (c .args .names .now) (c .args .start .known)) (c .args .start .used) (c .args .words .now) ws (p .used) (c .loop-p .words) (subst Row saw (c .loop-p .inv .2)) in
     record { row = subst (λ z. Stored-row (length s) (32 - c .args .depth) (from s (c .args .start .at)) (known-in (c .args .names .now) (c .args .start .known)) (c .args .start .used) (c .args .words .now) z ws (p .used) (c .loop-p .words)) (sym saw) whole; bound = (c .loop-p .inv .0, c .loop-p .inv .1) }
