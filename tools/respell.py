@@ -20,7 +20,7 @@ LIBRARY = {"length", "take", "drop", "get_or", "ltb", "leb", "eqb"}
 JOB_WORDS = {"is-less", "clips-by"}
 
 NAME = re.compile(r"(?<![\w'\-])[^\W\d_][\w']*(?:-[\w']+)*(?![\w'\-])")
-DEFINED = re.compile(r"^ *(?:(?:abbrev|unfoldable|pub|data|record) +)*(?P<name>[^\W\d][\w'\-]*(?: +[^\W\d][\w'\-]*)*) *:(?= |$)(?P<type>.*)$", re.M)
+DEFINED = re.compile(r"^ *(?:(?:abbrev|unfoldable|pub|data|record) +)*(?P<name>[^\W\d][\w'\-]*(?: +[^\W\d][\w'\-]*)*)(?: +\([^:\n]*: [^\n]*\))? *:(?= |$)(?P<type>.*)$", re.M)
 MADE = re.compile(r"\b(?:goal|need|needs)\.|\bGoals\.")
 TEXT = re.compile(r'//[^\n]*|"(?:[^"\\]|\\.)*"|\'(?:[^\'\\\n]|\\.)\'', re.S)
 REMARK = re.compile(r"--(?=\s)[^\n]*")

@@ -8,7 +8,7 @@ use Rattle.path.specs.Path.{Paint}
 use Rattle.path.specs.Stored.{rings_in, paths_in}
 use Rattle.machine.specs.Clips.{clips_in}
 use Rattle.machine.specs.Abstraction.{paint_in}
-use Rattle.raster.specs.Band.{Painted-band}
+use Rattle.raster.specs.Band.{PaintedBand}
 use Rattle.raster.specs.Coverage.{in_path, covers, dot_on, row, rows}
 use Rattle.raster.specs.Thing.{thing}
 use Rattle.raster.proofs.Painting.{clips_turned}
@@ -44,7 +44,7 @@ outside t b bs i le = ap (λ c. cond (c && covers t (i % b.width) (b.first + i /
 
 -- the bytes that a thing leaves are those of each thing that covers the same
 painted_is : (was bytes : List ℕ) (b : Band) (t u : Paint) → length bytes ≡ length was → t.grey ≡ u.grey → ((x y : ℕ) → covers t x y ≡ covers u x y) →
-    Painted-band was bytes b.width b.first b.count t → bytes ≡ painted u b was
+    PaintedBand was bytes b.width b.first b.count t → bytes ≡ painted u b was
 unfolding painted
 painted_is was bytes b t u len grey same p =
     fill_by_all (byte_after u b was) bytes (length was) 0 len
@@ -69,7 +69,7 @@ unfolding clips_in
 same_dots path clips g x y = ap (λ c. in_path (rings_in path) (16 * x + 8) (16 * y + 8) && c) (sym (clips_turned (paths_in clips) (16 * x + 8) (16 * y + 8)))
 
 pub paints : (b : Band) (was bytes : List ℕ) (k : ℕ) (d : Bool) (path clips : List ℕ) (g : ℕ) → d ≡ false → k ≡ 0 → fits b (length was) ≡ true → length bytes ≡ length was →
-    Painted-band was bytes b.width b.first b.count (thing path clips g) → canvas b k d bytes ≡ paint_onto (paint_in path clips g) (canvas b k d was)
+    PaintedBand was bytes b.width b.first b.count (thing path clips g) → canvas b k d bytes ≡ paint_onto (paint_in path clips g) (canvas b k d was)
 paints b was bytes k d path clips g opened ours ok len p =
     let now = and_from (not d) (eqb k 0 && fits b (length was)) (not_from_false d opened) (and_from (eqb k 0) (fits b (length was)) (eq-eqb k 0 ours) ok) in
     ap (canvas b k d) (painted_is was bytes b (thing path clips g) (paint_in path clips g) len refl (same_dots path clips g) p)

@@ -18,6 +18,6 @@ abbrev pub path_bottom : ℕ → List Ring → ℕ
 path_bottom t path = fold ring_bottom t path
 
 -- the extent is the path's; no point is as low as 2 ^ 24, and a path with no point reaches nothing
-pub record Extent-of (e : Extent) (path : List Ring) : Type 0 where
+pub record ExtentOf (e : Extent) (path : List Ring) : Type 0 where
   pub top : e.top ≡ path_top 16777216 path
   pub bottom : e.bottom ≡ path_bottom 0 path

@@ -1,7 +1,7 @@
 ghost use Rattle.std.specs.Prelude.{◌≡◌, min, max, []};
 ghost use Rattle.path.specs.Points.{ahead};
 ghost use Rattle.path.specs.Stored.{points_in, rings_in};
-ghost use Rattle.path.specs.Extent.{ring_top, ring_bottom, Extent-of};
+ghost use Rattle.path.specs.Extent.{ring_top, ring_bottom, ExtentOf};
 
 use super::cursor::Cursor;
 
@@ -15,7 +15,7 @@ pub struct Extent {
 impl Extent {
     // That of a path with no point.
     pub fn empty() -> Extent
-        ensures { Extent-of result [] }
+        ensures { ExtentOf result [] }
     {
         Extent {
             top: 16777216,
@@ -50,7 +50,7 @@ fn with_subpath(extent: Extent, points: Cursor) -> Extent
 
 // The extent of the path that a cursor has ahead.
 pub fn extent_ahead(path: Cursor) -> Extent
-    ensures { Extent-of result (rings_in (ahead path.entry)) }
+    ensures { ExtentOf result (rings_in (ahead path.entry)) }
 {
     let mut reached = Extent::empty();
     let mut rest = path;
@@ -62,7 +62,7 @@ pub fn extent_ahead(path: Cursor) -> Extent
 
 // The extent of a stored path.
 pub fn extent_of(path: &[u64]) -> Extent
-    ensures { Extent-of result (rings_in path.now) }
+    ensures { ExtentOf result (rings_in path.now) }
 {
     extent_ahead(Cursor::new(path))
 }

@@ -9,9 +9,9 @@ use Rattle.std.proofs.lemmas.Nat.{div_below, mod_below, div-add-mod'}
 use Rattle.std.proofs.lemmas.Bool.{cases_lt, lt-leb, le-leb, lt-ltb, le-ltb, and_from}
 use Rattle.bits.proofs.PartLaws.{put_before, put_in, put_past}
 use Rattle.path.specs.Path.{Paint}
-use Rattle.path.specs.Extent.{Extent-of}
+use Rattle.path.specs.Extent.{ExtentOf}
 use Rattle.path.specs.declared.extent.Extent.{Extent}
-use Rattle.raster.specs.Band.{reaches, Painted-within, Painted-band}
+use Rattle.raster.specs.Band.{reaches, PaintedWithin, PaintedBand}
 use Rattle.raster.specs.Coverage.{in_path, in_all, covers, dot_on, dot, row, rows}
 use Rattle.raster.specs.Extent.{clips_top, clips_bottom}
 use Rattle.raster.proofs.ExtentLaws.{path_over, path_under, clips_over, clips_under}
@@ -166,7 +166,7 @@ pub band_within : (was bytes : List ℕ) (w y n start end : ℕ) (t : Paint) (e 
     ((i : ℕ) → i < start * w → get_or bytes i 0 ≡ get_or was i 0) → ((i : ℕ) → end * w ≤ i → get_or bytes i 0 ≡ get_or was i 0) → end ≤ n →
     ((r x : ℕ) → r < start → Misses e t x (y + r)) → ((r x : ℕ) → end ≤ r → r < n → Misses e t x (y + r)) →
     ((r : ℕ) → start ≤ r → r < end → (e.top ≤ 16 * (y + r) + 8) × (16 * (y + r) + 8 < e.bottom)) →
-    Painted-within was bytes w y n t e
+    PaintedWithin was bytes w y n t e
 band_within was bytes w y n start end t e value before rest order over under inside = record { dots = one; rest = λ i le. let o = mul-le-mul_right {m = end} {n = n} w order in rest i (omega arith) }
   where
     one : (r x : ℕ) → r < n → x < w → get_or bytes (r * w + x) 0 ≡ cond (reaches e (16 * (y + r) + 8) && covers t x (y + r)) t.grey (get_or was (r * w + x) 0)
@@ -183,7 +183,7 @@ band_within was bytes w y n start end t e value before rest order over under ins
         ]
 
 -- within the path's own extent all of the thing is painted
-pub band_painted : (was bytes : List ℕ) (w y n : ℕ) (t : Paint) (e : Extent) → length bytes ≡ length was → n * w ≤ length was → Painted-within was bytes w y n t e → Extent-of e t.path → Painted-band was bytes w y n t
+pub band_painted : (was bytes : List ℕ) (w y n : ℕ) (t : Paint) (e : Extent) → length bytes ≡ length was → n * w ≤ length was → PaintedWithin was bytes w y n t e → ExtentOf e t.path → PaintedBand was bytes w y n t
 band_painted was bytes w y n t e same fits p own = record { dots = one; rest = p.rest; more = λ ps h. painted_more was bytes w y n t same fits one p.rest ps h }
   where
     gone : (x r : ℕ) → in_path t.path (16 * x + 8) (16 * (y + r) + 8) ≡ false → (reaches e (16 * (y + r) + 8) && covers t x (y + r)) ≡ covers t x (y + r)

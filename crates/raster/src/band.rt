@@ -1,10 +1,10 @@
 ghost use Rattle.std.specs.Prelude.{◌≡◌, ℕ, ◌+◌, ◌-◌, ◌*◌, ◌/◌, ◌<◌, ◌≤◌, min, length, if◌then◌else◌, slice_index};
 ghost use Rattle.bits.specs.Row.{Empty};
-ghost use Rattle.path.specs.Extent.{Extent-of};
+ghost use Rattle.path.specs.Extent.{ExtentOf};
 ghost use Rattle.path.specs.Points.{ahead};
 ghost use Rattle.path.specs.Stored.{rings_in};
 ghost use Rattle.raster.specs.Coverage.{covers};
-ghost use Rattle.raster.specs.Band.{Painted-within, Painted-band};
+ghost use Rattle.raster.specs.Band.{PaintedWithin, PaintedBand};
 ghost use Rattle.raster.specs.Thing.{thing};
 
 use super::coverage::paint_row;
@@ -118,8 +118,8 @@ pub fn paint_band(
 )
     requires len { (count * width ≤ length bytes.old) × (width ≤ 8192) }
     requires near { first + count ≤ 65536 }
-    ensures within { Painted-within bytes.old bytes.new width first count (thing path.now clips.now grey) extent }
-    ensures after { Extent-of extent (rings_in path.now) → Painted-band bytes.old bytes.new width first count (thing path.now clips.now grey) }
+    ensures within { PaintedWithin bytes.old bytes.new width first count (thing path.now clips.now grey) extent }
+    ensures after { ExtentOf extent (rings_in path.now) → PaintedBand bytes.old bytes.new width first count (thing path.now clips.now grey) }
 {
     let reached = rows_within(extent, first, count);
     if reached.start >= reached.end {

@@ -4,7 +4,7 @@
 // length. Out: whether the sizes fit, and the band with the thing painted. No C caller is held to a
 // `requires`, so what does not fit is refused and nothing is written.
 ghost use Rattle.std.specs.Prelude.{◌≡◌, true, false, ◌+◌, ◌*◌, ◌≤◌, length};
-ghost use Rattle.raster.specs.Band.{Painted-band};
+ghost use Rattle.raster.specs.Band.{PaintedBand};
 ghost use Rattle.raster.specs.Thing.{thing};
 
 use path::extent::extent_of;
@@ -20,7 +20,7 @@ pub extern "C" fn raster_paint_band(
     first: u32,
     count: usize,
 ) -> bool
-    ensures after { result ≡ true → Painted-band bytes.old bytes.new width first count (thing path.now clips.now grey) }
+    ensures after { result ≡ true → PaintedBand bytes.old bytes.new width first count (thing path.now clips.now grey) }
     ensures refused { result ≡ false → bytes.new ≡ bytes.old }
     ensures cases { width ≤ 8192 → first + count ≤ 65536 → count * width ≤ length bytes.old → result ≡ true }
 {

@@ -1,7 +1,7 @@
 ghost use Rattle.std.specs.Prelude.{◌≡◌, Bool, List};
 ghost use Rattle.std.specs.Borrow.{GName};
 ghost use Rattle.path.specs.Path.{Paint};
-ghost use Rattle.path.specs.Extent.{Extent-of};
+ghost use Rattle.path.specs.Extent.{ExtentOf};
 ghost use Rattle.path.specs.Stored.{rings_in};
 ghost use Rattle.machine.specs.Abstraction.{no_past, state, paint_in};
 ghost use Rattle.run.specs.Sinks.{Driven};
@@ -36,7 +36,7 @@ pub trait Sink: Sized {
     ghost lent: { Self → List GName };
 
     fn painted(&mut self, path: &[u64], extent: Extent, clips: &[u64], grey: u8)
-        ensures seen { Extent-of extent (rings_in path.now) → view self.new ≡ paint (paint_in path.now clips.now grey) (view self.old) }
+        ensures seen { ExtentOf extent (rings_in path.now) → view self.new ≡ paint (paint_in path.now clips.now grey) (view self.old) }
         ensures lent { lent self.new ≡ lent self.old };
 
     fn shown(&mut self) -> bool

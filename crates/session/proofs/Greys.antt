@@ -28,7 +28,7 @@ record Safe (s : State) : Type 0 where
   painted : Bytes s.paints
   shown : AllBytes s.pages
 
-record Goes-safe (w : Went) : Type 0 where
+record GoesSafe (w : Went) : Type 0 where
   safe : Safe (state_of w)
 
 bytes_append : (ps qs : List Paint) → Bytes ps → Bytes qs → Bytes (ps ++ qs)
@@ -45,65 +45,65 @@ all_append (g ∷ gs) hs h k = (h.0, all_append gs hs h.1 k)
 same : {s t : State} → Safe s → t.manner.grey ≡ s.manner.grey → t.saved ≡ s.saved → t.paints ≡ s.paints → t.pages ≡ s.pages → Safe t
 same h a b c d = record { grey = let k = h.grey in omega arith; kept = subst KeptBytes (sym b) h.kept; painted = subst Bytes (sym c) h.painted; shown = subst AllBytes (sym d) h.shown }
 
-stops : (e : ℕ) {s : State} → Safe s → Goes-safe (ends e s)
+stops : (e : ℕ) {s : State} → Safe s → GoesSafe (ends e s)
 unfolding state_of
 stops e h = record { safe = h }
 
-goes : {s : State} → Safe s → Goes-safe (on s)
+goes : {s : State} → Safe s → GoesSafe (on s)
 unfolding state_of
 goes h = record { safe = h }
 
 -- a step that changes none of these, whichever way its tests go
-kept_all : {s : State} → Safe s → (w : Went) → (state_of w).manner.grey ≡ s.manner.grey → (state_of w).saved ≡ s.saved → (state_of w).paints ≡ s.paints → (state_of w).pages ≡ s.pages → Goes-safe w
+kept_all : {s : State} → Safe s → (w : Went) → (state_of w).manner.grey ≡ s.manner.grey → (state_of w).saved ≡ s.saved → (state_of w).paints ≡ s.paints → (state_of w).pages ≡ s.pages → GoesSafe w
 kept_all h w a b c d = record { safe = same h a b c d }
 
-either : (b : Bool) (v w : Went) → Goes-safe v → Goes-safe w → Goes-safe (cond b v w)
-either b v w h k = cond_both b v w Goes-safe (λ _. h) (λ _. k)
+either : (b : Bool) (v w : Went) → GoesSafe v → GoesSafe w → GoesSafe (cond b v w)
+either b v w h k = cond_both b v w GoesSafe (λ _. h) (λ _. k)
 
-one : {s : State} → Safe s → (vs : List Value) {f : ℕ → List Value → Went} → ((n : ℕ) (us : List Value) → Goes-safe (f n us)) → Goes-safe (with_one s vs f)
+one : {s : State} → Safe s → (vs : List Value) {f : ℕ → List Value → Went} → ((n : ℕ) (us : List Value) → GoesSafe (f n us)) → GoesSafe (with_one s vs f)
 unfolding with_one
 one h [] k = stops 1 h
 one h (amount n ∷ vs) k = k n vs
 one h (code ts ∷ vs) k = stops 2 h
 one h (label l ∷ vs) k = stops 2 h
 
-two : {s : State} → Safe s → {f : ℕ → ℕ → List Value → Went} → ((a b : ℕ) (us : List Value) → Goes-safe (f a b us)) → Goes-safe (with_two s f)
+two : {s : State} → Safe s → {f : ℕ → ℕ → List Value → Went} → ((a b : ℕ) (us : List Value) → GoesSafe (f a b us)) → GoesSafe (with_two s f)
 unfolding with_two
 two {s} h k = one h s.stack (λ b vs. one h vs (λ a us. k a b us))
 
-coded : {s : State} → Safe s → (vs : List Value) {f : Tokens → List Value → Went} → ((ts : Tokens) (us : List Value) → Goes-safe (f ts us)) → Goes-safe (with_code s vs f)
+coded : {s : State} → Safe s → (vs : List Value) {f : Tokens → List Value → Went} → ((ts : Tokens) (us : List Value) → GoesSafe (f ts us)) → GoesSafe (with_code s vs f)
 unfolding with_code
 coded h [] k = stops 1 h
 coded h (amount n ∷ vs) k = stops 2 h
 coded h (code ts ∷ vs) k = k ts vs
 coded h (label l ∷ vs) k = stops 2 h
 
-top : {s : State} → Safe s → (vs : List Value) {f : Value → List Value → Went} → ((a : Value) (us : List Value) → Goes-safe (f a us)) → Goes-safe (top_one s vs f)
+top : {s : State} → Safe s → (vs : List Value) {f : Value → List Value → Went} → ((a : Value) (us : List Value) → GoesSafe (f a us)) → GoesSafe (top_one s vs f)
 unfolding top_one
 top h [] k = stops 1 h
 top h (a ∷ vs) k = k a vs
 
-tops : {s : State} → Safe s → (vs : List Value) {f : Value → Value → List Value → Went} → ((a b : Value) (us : List Value) → Goes-safe (f a b us)) → Goes-safe (top_two s vs f)
+tops : {s : State} → Safe s → (vs : List Value) {f : Value → Value → List Value → Went} → ((a b : Value) (us : List Value) → GoesSafe (f a b us)) → GoesSafe (top_two s vs f)
 unfolding top_two
 tops h [] k = stops 1 h
 tops h (b ∷ []) k = stops 1 h
 tops h (b ∷ (a ∷ vs)) k = k a b vs
 
-pushed : {s : State} → Safe s → (vs : List Value) (v : Value) → Goes-safe (push s vs v)
+pushed : {s : State} → Safe s → (vs : List Value) (v : Value) → GoesSafe (push s vs v)
 pushed h vs v = either (ltb (length vs) 256) _ _ (goes (same h refl refl refl refl)) (stops 7 h)
 
-counted : {s : State} → Safe s → (vs : List Value) (n : ℕ) → Goes-safe (push_number s vs n)
+counted : {s : State} → Safe s → (vs : List Value) (n : ℕ) → GoesSafe (push_number s vs n)
 counted h vs n = either (ltb n 2147483648) _ _ (pushed h vs (amount n)) (stops 3 h)
 
-entered : {s : State} → Safe s → (ts : Tokens) (n : ℕ) → Goes-safe (enter s ts n)
+entered : {s : State} → Safe s → (ts : Tokens) (n : ℕ) → GoesSafe (enter s ts n)
 entered {s} h ts n = either (ltb (length s.frames) 64) _ _ (goes (same h refl refl refl refl)) (stops 7 h)
 
-lined : {s : State} → Safe s → (a b : ℕ) (vs : List Value) (r : Ring) → Goes-safe (line_to s a b vs r)
+lined : {s : State} → Safe s → (a b : ℕ) (vs : List Value) (r : Ring) → GoesSafe (line_to s a b vs r)
 unfolding line_to state_of
 lined h a b vs [] = stops 5 h
 lined h a b vs (q ∷ qs) = kept_all h _ (grind arith) (grind arith) (grind arith) (grind arith)
 
-bound : {s : State} → Safe s → (vs : List Value) → Goes-safe (bind s vs)
+bound : {s : State} → Safe s → (vs : List Value) → GoesSafe (bind s vs)
 unfolding bind
 bound h [] = stops 1 h
 bound h (v ∷ []) = stops 1 h
@@ -111,12 +111,12 @@ bound h (v ∷ (label k ∷ vs)) = goes (same h refl refl refl refl)
 bound h (v ∷ (amount n ∷ vs)) = stops 2 h
 bound h (v ∷ (code ts ∷ vs)) = stops 2 h
 
-returned : {s : State} → Safe s → (ms : List Manner) → KeptBytes ms → Goes-safe (back_to s ms)
+returned : {s : State} → Safe s → (ms : List Manner) → KeptBytes ms → GoesSafe (back_to s ms)
 unfolding back_to KeptBytes state_of
 returned h [] k = stops 6 h
 returned h (m ∷ ms) k = goes (record { grey = k.0; kept = k.1; painted = h.painted; shown = h.shown })
 
-operated : {s : State} → Safe s → (o : Operator) → Goes-safe (operate s o)
+operated : {s : State} → Safe s → (o : Operator) → GoesSafe (operate s o)
 unfolding operate go_to state_of Bytes AllBytes KeptBytes
 operated h adds = two h (λ a b vs. counted h vs _)
 operated h takes = two h (λ a b vs. either (leb b a) _ _ (counted h vs _) (stops 3 h))
@@ -134,21 +134,21 @@ operated {s} h lines = two h (λ a b vs. lined h a b vs s.ring)
 operated {s} h fills = goes (record { grey = h.grey; kept = h.kept; painted = bytes_append s.paints _ h.painted (h.grey, tt); shown = h.shown })
 operated h clips_by = kept_all h _ (grind arith) (grind arith) (grind arith) (grind arith)
 operated {s} h greys =
-    one h s.stack (λ n vs. cond_both (ltb n 256) _ _ Goes-safe (λ e. goes (record { grey = ltb-true n 256 e; kept = h.kept; painted = h.painted; shown = h.shown })) (λ _. stops 3 h))
+    one h s.stack (λ n vs. cond_both (ltb n 256) _ _ GoesSafe (λ e. goes (record { grey = ltb-true n 256 e; kept = h.kept; painted = h.painted; shown = h.shown })) (λ _. stops 3 h))
 operated h shifts = two h (λ a b vs. kept_all h _ (grind arith) (grind arith) (grind arith) (grind arith))
 operated {s} h scales = one h s.stack (λ n vs. kept_all h _ (grind arith) (grind arith) (grind arith) (grind arith))
 operated {s} h keeps = either (ltb (length s.saved) 16) _ _ (goes (record { grey = h.grey; kept = (h.grey, h.kept); painted = h.painted; shown = h.shown })) (stops 7 h)
 operated {s} h back = returned h s.saved h.kept
 operated {s} h shows = goes (record { grey = h.grey; kept = h.kept; painted = tt; shown = all_append s.pages _ h.shown (h.painted, tt) })
 
-called : {s : State} → Safe s → (vs : List Value) → Goes-safe (call s vs)
+called : {s : State} → Safe s → (vs : List Value) → GoesSafe (call s vs)
 unfolding call
 called h [] = stops 4 h
 called {s} h (amount n ∷ vs) = pushed h s.stack (amount n)
 called h (code ts ∷ vs) = entered h ts 1
 called {s} h (label k ∷ vs) = pushed h s.stack (label k)
 
-token_run : {s : State} → Safe s → (t : Token) → Goes-safe (run_token s t)
+token_run : {s : State} → Safe s → (t : Token) → GoesSafe (run_token s t)
 unfolding run_token
 token_run {s} h (number n) = pushed h s.stack (amount n)
 token_run h (does k) = operated h k
@@ -156,28 +156,28 @@ token_run {s} h (name k) = called h (found s.names k [])
 token_run {s} h (quoted k) = pushed h s.stack (label k)
 token_run {s} h (body ts) = pushed h s.stack (code ts)
 
-advanced : {s : State} → Safe s → (ts : Tokens) (n : ℕ) (w : Tokens) (fs : List Frame) → Goes-safe (advance s ts n w fs)
+advanced : {s : State} → Safe s → (ts : Tokens) (n : ℕ) (w : Tokens) (fs : List Frame) → GoesSafe (advance s ts n w fs)
 unfolding advance
 advanced h (more t ts) n w fs = token_run (same h refl refl refl refl) t
 advanced h none (suc n) w fs = goes (same h refl refl refl refl)
 advanced h none zero w fs = goes (same h refl refl refl refl)
 
-stepped : {s : State} → Safe s → (fs : List Frame) → Goes-safe (step_in s fs)
+stepped : {s : State} → Safe s → (fs : List Frame) → GoesSafe (step_in s fs)
 unfolding step_in
 stepped h [] = stops 0 h
 stepped h (f ∷ fs) = advanced h f.rest f.again f.whole fs
 
-ended : {s : State} → Safe s → (fs : List Frame) → Goes-safe (at_end fs s)
+ended : {s : State} → Safe s → (fs : List Frame) → GoesSafe (at_end fs s)
 unfolding at_end
 ended h [] = stops 0 h
 ended h (f ∷ fs) = stops 8 h
 
-goes_on : (w : Went) (f : State → Went) → Goes-safe w → ((t : State) → Safe t → Goes-safe (f t)) → Goes-safe (go_on w f)
+goes_on : (w : Went) (f : State → Went) → GoesSafe w → ((t : State) → Safe t → GoesSafe (f t)) → GoesSafe (go_on w f)
 unfolding go_on state_of
 goes_on (on t) f h k = k t h.safe
 goes_on (ends e t) f h k = h
 
-ran : (n : ℕ) (s : State) → Safe s → Goes-safe (run n s)
+ran : (n : ℕ) (s : State) → Safe s → GoesSafe (run n s)
 unfolding run
 ran zero s h = ended h s.frames
 ran (suc n) s h = goes_on (step s) (run n) (stepped h s.frames) (λ t k. ran n t k)

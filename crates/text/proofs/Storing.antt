@@ -10,7 +10,7 @@ use Rattle.tokens.specs.declared.Token as code-token
 use Rattle.tokens.specs.Stage.{stage}
 use Rattle.tokens.specs.Stored.{stored, all_stored, token_of}
 use Rattle.words.specs.Meaning.{Plain, plain_limit, plain_token, plain_names}
-use Rattle.text.specs.Storing.{begun_with, Ready, row_end, Stored-row}
+use Rattle.text.specs.Storing.{begun_with, Ready, row_end, StoredRow}
 use Rattle.lexer.proofs.Faults.{not_fine, passed, failed}
 
 -- two words set at the end of a front, whatever is stored behind them
@@ -147,7 +147,7 @@ module _ (len left : ℕ) (ps₀ : List Piece) (ws₀ : List (List ℕ)) (used�
         ready = subst (Ready len left (used + 2) (length words) ps) (sym names) ready;
       }
 
-  pub part_body : (n : ℕ) (ps qs : List Piece) (ws vs : List (List ℕ)) (used end : ℕ) (now later : List ℕ) → Part (opens n ∷ ps) ws used now → length now ≡ length words → Stored-row len (left + 1) ps ws (used + 2) now qs vs end later → Part qs vs end (set (set later used 4) (used + 1) (end - (used + 2)))
+  pub part_body : (n : ℕ) (ps qs : List Piece) (ws vs : List (List ℕ)) (used end : ℕ) (now later : List ℕ) → Part (opens n ∷ ps) ws used now → length now ≡ length words → StoredRow len (left + 1) ps ws (used + 2) now qs vs end later → Part qs vs end (set (set later used 4) (used + 1) (end - (used + 2)))
   unfolding build stored
   part_body n ps qs ws vs used end now later part same inner =
       let room = part.ready.enough in
@@ -164,12 +164,12 @@ module _ (len left : ℕ) (ps₀ : List Piece) (ws₀ : List (List ℕ)) (used�
         ready = subst (λ z. Ready len z end (length words) qs vs) outermost (subst (λ z. Ready len (left + 1 - 1) end z qs vs) same inner.ready);
       }
 
-  pub part_close : (n : ℕ) (qs : List Piece) (ws : List (List ℕ)) (used : ℕ) (now : List ℕ) → Part (closes n ∷ qs) ws used now → Stored-row len left ps₀ ws₀ used₀ words qs ws used now
+  pub part_close : (n : ℕ) (qs : List Piece) (ws : List (List ℕ)) (used : ℕ) (now : List ℕ) → Part (closes n ∷ qs) ws used now → StoredRow len left ps₀ ws₀ used₀ words qs ws used now
   part_close n qs ws used now part =
       let ready = ready_close n qs ws len left used (length words) part.ready in
       record { row = part.row; built = λ cur outer l. part.built cur outer l ∙ close_built n qs ws (part.row ++ cur) outer (λ z. ready.0 (sym l ∙ z)); front = part.front; behind = part.behind; ends = part.ends; ready = ready.1 }
 
-  pub part_end : (ws : List (List ℕ)) (used : ℕ) (now : List ℕ) → Part [] ws used now → Stored-row len left ps₀ ws₀ used₀ words [] ws used now
+  pub part_end : (ws : List (List ℕ)) (used : ℕ) (now : List ℕ) → Part [] ws used now → StoredRow len left ps₀ ws₀ used₀ words [] ws used now
   part_end ws used now part =
       let none = ready_end ws len left used (length words) part.ready in
       record { row = part.row; built = λ cur outer l. part.built cur outer l ∙ end_built ws (part.row ++ cur) outer (l ∙ none); front = part.front; behind = part.behind; ends = part.ends; ready = subst (λ z. Ready len z used (length words) [] ws) (omega arith) part.ready }

@@ -29,7 +29,7 @@ row_end ts ps ws [] = ts
 row_end ts ps ws (o ∷ os) = build ps ws (body ts ∷ o) os
 
 -- a row was stored: its tokens, the last first; what the pieces build with them; and the words, of which only the row's are new
-pub record Stored-row (len left : ℕ) (ps : List Piece) (ws : List (List ℕ)) (used : ℕ) (words : List ℕ) (qs : List Piece) (vs : List (List ℕ)) (end : ℕ) (stored : List ℕ) : Type 0 where
+pub record StoredRow (len left : ℕ) (ps : List Piece) (ws : List (List ℕ)) (used : ℕ) (words : List ℕ) (qs : List Piece) (vs : List (List ℕ)) (end : ℕ) (stored : List ℕ) : Type 0 where
   pub row : List Token
   pub built : (cur : List Token) (outer : List (List Token)) → length outer ≡ left → build ps ws cur outer ≡ row_end (turned (row ++ cur) none) qs vs outer
   pub front : take end stored ≡ take used words ++ all_stored (turned row none)

@@ -4,7 +4,7 @@ ghost use Rattle.lexer.specs.Lexing.{from};
 ghost use Rattle.words.specs.Naming.{known_in};
 ghost use Rattle.tokens.specs.Stage.{stage};
 ghost use Rattle.tokens.specs.Stored.{all_stored};
-ghost use Rattle.text.specs.Storing.{begun_with, Ready, Stored-row, StoredAs};
+ghost use Rattle.text.specs.Storing.{begun_with, Ready, StoredRow, StoredAs};
 
 use super::check::count_tokens;
 use super::refusal::Refusal;
@@ -53,7 +53,7 @@ fn store_row<'a>(
 ) -> Progress
     requires names { (length names.old ≡ 256) × ((start.known ≤ 256) × (depth ≤ 32)) }
     requires ready { Ready (length source.now) (32 - depth) start.used (length words.old) (from source.now start.at) (known_in names.old start.known) }
-    ensures row { Stored-row (length source.now) (32 - depth) (from source.now start.at) (known_in names.old start.known) start.used words.old (from source.now result.at) (known_in names.new result.known) result.used words.new }
+    ensures row { StoredRow (length source.now) (32 - depth) (from source.now start.at) (known_in names.old start.known) start.used words.old (from source.now result.at) (known_in names.new result.known) result.used words.new }
     ensures bound { (result.known ≤ 256) × (start.at ≤ result.at) }
 {
     let mut p = start;

@@ -3,7 +3,7 @@ use Rattle.std.proofs.Common.{◌≡◌, ℕ, zero, suc, ◌+◌, ◌-◌, ◌%�
 use Rattle.std.proofs.lemmas.List.{take_at, drop_at}
 use Rattle.std.proofs.lemmas.Bool.{le-ltb, lt-ltb, ltb-false, cond-true, cond-false, cond_both}
 use Rattle.tokens.specs.Token.{Token, number, does, name, quoted, body, Tokens, none, more, Operator, number_of, adds, takes, multiplies, divides, is_less, copies, drops, swaps, defines, repeats, when, moves, lines, fills, clips_by, greys, shifts, scales, keeps, back, shows, InRange, AllInRange}
-use Rattle.tokens.specs.Stored.{stored, all_stored, operator_at, Head, over, plain, nested, operator_head, by_kind, head_of, by_head, decode_in, decode, operator_of, token_of, head_with, seen, followed, Shorter, Next-token}
+use Rattle.tokens.specs.Stored.{stored, all_stored, operator_at, Head, over, plain, nested, operator_head, by_kind, head_of, by_head, decode_in, decode, operator_of, token_of, head_with, seen, followed, Shorter, NextToken}
 use Rattle.tokens.specs.Laws.{StoredReadsBack}
 use Rattle.tokens.specs.declared.Token as code-token
 
@@ -133,10 +133,10 @@ below_rest n (code-token.TheVariants.Name k) rest h = h
 below_rest n (code-token.TheVariants.Quoted k) rest h = h
 below_rest n (code-token.TheVariants.Body b) rest h = h.1
 
-pub next_over : (ws : List ℕ) → over ≡ head_of ws → Next-token None ws
+pub next_over : (ws : List ℕ) → over ≡ head_of ws → NextToken None ws
 next_over ws e = record { head = e; value = ap (by_head decode) e ∙ sym (decode_step ws); len = tt }
 
-pub next_is : (t : code-token.Token) (rest : Bor (List ℕ)) (ws : List ℕ) → head_with t rest.now ≡ head_of ws → Next-token (Some (t, rest)) ws
+pub next_is : (t : code-token.Token) (rest : Bor (List ℕ)) (ws : List ℕ) → head_with t rest.now ≡ head_of ws → NextToken (Some (t, rest)) ws
 next_is t rest ws e =
     record {
       head = e;

@@ -134,7 +134,7 @@ Shorter n None = Unit {0}
 Shorter n (Some p) = length p.1.now < n
 
 -- what is to be known of the next token of some words: what stands first in them, what they read as, and that fewer are left
-pub record Next-token (r : Option (code-token.Token × Bor (List ℕ))) (ws : List ℕ) : Type 0 where
+pub record NextToken (r : Option (code-token.Token × Bor (List ℕ))) (ws : List ℕ) : Type 0 where
   pub head : seen r ≡ head_of ws
   pub value : followed r ≡ decode ws
   pub len : Shorter (length ws) r

@@ -7,7 +7,7 @@
 // operator ends the row, as a single last word does, and a body has at most the words that are there.
 ghost use Rattle.std.specs.Prelude.{◌≡◌, take, drop};
 ghost use Rattle.tokens.specs.Token.{number_of};
-ghost use Rattle.tokens.specs.Stored.{operator_of, operator_at, known, Next-token};
+ghost use Rattle.tokens.specs.Stored.{operator_of, operator_at, known, NextToken};
 
 pub mod laws;
 
@@ -97,7 +97,7 @@ fn body_of(words: &[u64], n: u64) -> (&[u64], &[u64])
 
 // the next token and the words after it; None where the row ends
 pub fn next_token(rest: &[u64]) -> Option<(Token<'_>, &[u64])>
-    ensures { Next-token result rest.now }
+    ensures { NextToken result rest.now }
 {
     if rest.len() < 2 {
         return None;

@@ -1,7 +1,7 @@
 ghost use Rattle.std.specs.Prelude.{◌≡◌, ◌*◌, ◌<◌, ◌≤◌, length, take, nat_lt};
 ghost use Rattle.path.specs.Path.{finished};
 ghost use Rattle.path.specs.Stored.{rings_in};
-ghost use Rattle.path.specs.Extent.{Extent-of};
+ghost use Rattle.path.specs.Extent.{ExtentOf};
 ghost use Rattle.path.specs.Building.{rings_of, ring_of, points_of};
 
 use super::super::extent::{Extent, extent_of};
@@ -24,7 +24,7 @@ impl<'m> Path<'m> {
 
     // Between which levels its points lie.
     pub fn extent(&self) -> Extent
-        ensures { Extent-of result (finished (rings_of self.now) (ring_of self.now)) }
+        ensures { ExtentOf result (finished (rings_of self.now) (ring_of self.now)) }
     {
         self.extent
     }
@@ -52,7 +52,7 @@ impl<'m> Path<'m> {
 
     // The extent of the path that the first `n` words are: known if that is the one that was cleared last.
     pub fn front_extent(&self, n: usize) -> Extent
-        ensures { Extent-of result (rings_in (take n self.now.words.now)) }
+        ensures { ExtentOf result (rings_in (take n self.now.words.now)) }
     {
         if n == self.before {
             self.reached

@@ -3,7 +3,7 @@ use Rattle.path.specs.Path.{Paint}
 use Rattle.path.specs.Points.{ahead}
 use Rattle.path.specs.Stored.{paths_in}
 use Rattle.path.specs.declared.extent.Extent.{Extent}
-use Rattle.raster.specs.Band.{Painted-within}
+use Rattle.raster.specs.Band.{PaintedWithin}
 use Rattle.raster.specs.Coverage.{covers}
 use Rattle.raster.specs.Extent.{clips_top, clips_bottom}
 use Rattle.raster.specs.Thing.{thing}
@@ -20,7 +20,7 @@ narrow : (was bytes path clips : List ℕ) (grey w y n start end top bottom : �
     ((r x : ℕ) → start ≤ r → r < end → x < w → get_or bytes (r * w + x) 0 ≡ cond (covers (thing path clips grey) x (y + r)) grey (get_or was (r * w + x) 0)) →
     ((i : ℕ) → i < start * w → get_or bytes i 0 ≡ get_or was i 0) → ((i : ℕ) → end * w ≤ i → get_or bytes i 0 ≡ get_or was i 0) →
     top ≡ clips_top e.top (paths_in clips) → bottom ≡ clips_bottom e.bottom (paths_in clips) → start ≡ min ((top + 7) / 16 - y) n → end ≡ min ((bottom + 7) / 16 - y) n →
-    Painted-within was bytes w y n (thing path clips grey) e
+    PaintedWithin was bytes w y n (thing path clips grey) e
 narrow was bytes path clips grey w y n start end top bottom e value before rest et eb es ee =
     let t = thing path clips grey in
     let lower = le_clips_top (paths_in clips) e.top in
@@ -69,7 +69,7 @@ returns-then-rows c =
     let clips = ahead c.new-clips.result in
     let e = c.args.extent in
     let rows = c.rows-within-rows.result in
-    let P : Paint → Type 0 = λ t. Painted-within was bytes c.args.width c.args.first c.args.count t e in
+    let P : Paint → Type 0 = λ t. PaintedWithin was bytes c.args.width c.args.first c.args.count t e in
     let within =
     subst P (same_thing path c.args.path.now clips c.args.clips.now c.args.grey c.new.ensures c.new-clips.ensures)
     (narrow was bytes path clips c.args.grey c.args.width c.args.first c.args.count rows.start rows.end c.narrowed.result.top c.narrowed.result.bottom e c.paint-rows.ensures.value c.paint-rows.ensures.before c.paint-rows.ensures.rest

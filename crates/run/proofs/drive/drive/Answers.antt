@@ -1,5 +1,5 @@
 use Rattle.std.proofs.Common.{◌+◌, sym, refl, ap, ◌∙◌, subst, arith}
-use Rattle.path.specs.Extent.{Extent-of}
+use Rattle.path.specs.Extent.{ExtentOf}
 use Rattle.path.specs.Stored.{rings_in}
 use Rattle.machine.specs.Abstraction.{no_past, with_painted, with_page, state, thing_of, after_event}
 use Rattle.machine.specs.declared.event.Fault.TheVariants.{StepsUsedUp}
@@ -68,7 +68,7 @@ loop-i-preserved g c =
             u,
             run_on i before (state m p u) _ (ap (λ e. after_event e m p t) (sym w.in-Painted.is) ∙ went) inv.1,
             ap g.E.Sink.view w.sink-is
-                ∙ w.painted.ensures.seen (subst (λ ws. Extent-of w.front-extent.result (rings_in ws)) (sym w.front.ensures) w.front-extent.ensures)
+                ∙ w.painted.ensures.seen (subst (λ ws. ExtentOf w.front-extent.result (rings_in ws)) (sym w.front.ensures) w.front-extent.ensures)
                 ∙ ap (λ x. g.E.Sink.paint x (g.E.Sink.view c.loop-i.sink)) (same_paint w.front.ensures w.clip_words.ensures w.grey.ensures)
                 ∙ told_painted g.E.Sink.paint g.E.Sink.page t _ _ _ inv.2,
             omega arith,

@@ -4,7 +4,7 @@ use Rattle.lexer.specs.Lexing.{from, Saw}
 use Rattle.words.specs.Naming.{known_in}
 use Rattle.words.specs.Meaning.{plain_limit}
 use Rattle.tokens.specs.Stored.{token_of}
-use Rattle.text.specs.Storing.{begun_with, Ready, Stored-row}
+use Rattle.text.specs.Storing.{begun_with, Ready, StoredRow}
 use Rattle.lexer.proofs.Faults.{not_fine}
 use Rattle.text.proofs.Limiting.{Next, next_piece, placed, plain_of}
 use Rattle.text.proofs.Storing.{Part, part_none, part_plain, part_body, part_close, part_end, ready_open, ready_plain, two_words}
@@ -29,7 +29,7 @@ returns-in-End t c =
       | inr e ↦ absurd (not_fine e.0 (sym ((subst (λ z. Saw s p.at z j) e.1 c.lexeme-at-next.ensures).1 (length s) (32 - c.args.depth)) ∙ c.loop-p.invariant.2.ready.readable))
     ] in
     let whole = part_end (length s) (32 - c.args.depth) (from s c.args.start.at) (known_in c.args.names.now c.args.start.known) c.args.start.used c.args.words.now ws p.used c.loop-p.words (subst Row saw c.loop-p.invariant.2) in
-    record { row = subst (λ z. Stored-row (length s) (32 - c.args.depth) (from s c.args.start.at) (known_in c.args.names.now c.args.start.known) c.args.start.used c.args.words.now z ws p.used c.loop-p.words) (sym saw) whole; bound = (c.loop-p.invariant.0, c.loop-p.invariant.1) }
+    record { row = subst (λ z. StoredRow (length s) (32 - c.args.depth) (from s c.args.start.at) (known_in c.args.names.now c.args.start.known) c.args.start.used c.args.words.now z ws p.used c.loop-p.words) (sym saw) whole; bound = (c.loop-p.invariant.0, c.loop-p.invariant.1) }
 
 pub returns-in-Close : goal.returns-in-Close
 returns-in-Close t c =
@@ -79,7 +79,7 @@ loop-p-preserved-in-Open t c =
     let part = subst Row saw.2 c.loop-p.invariant.2 in
     let after = c.store-row-after in
     let deeper : 32 - (c.args.depth - 1) ≡ 32 - c.args.depth + 1 = omega arith in
-    let inner = subst (λ z. Stored-row (length s) z (from s j) ws (p.used + 2) c.loop-p.words (from s after.result.at) (known_in after.new.names after.result.known) after.result.used after.new.words) deeper after.ensures.row in
+    let inner = subst (λ z. StoredRow (length s) z (from s j) ws (p.used + 2) c.loop-p.words (from s after.result.at) (known_in after.new.names after.result.known) after.result.used after.new.words) deeper after.ensures.row in
     let row = part_body (length s) (32 - c.args.depth) (from s c.args.start.at) (known_in c.args.names.now c.args.start.known) c.args.start.used c.args.words.now c.in-Open.place (from s j) (from s after.result.at) ws (known_in after.new.names after.result.known) p.used after.result.used c.loop-p.words after.new.words part (omega arith) inner in
     (after.ensures.bound.0, omega arith, subst (λ z. Part (length s) (32 - c.args.depth) (from s c.args.start.at) (known_in c.args.names.now c.args.start.known) c.args.start.used c.args.words.now (from s after.result.at) (known_in after.new.names after.result.known) after.result.used z) (sym c.put.ensures) row)
 
