@@ -5,9 +5,9 @@ use Rattle.std.proofs.lemmas.Bool.{lt-ltb, le-ltb, ne_eqb, cases_lt, cases_Bool,
 use Rattle.path.specs.Path.{Paint}
 use Rattle.machine.specs.Machine.{State, run}
 use Rattle.machine.specs.Laws.{state_of, begins_with}
-use Rattle.machine.proofs.Showing.{longer_run}
-use Rattle.run.specs.declared.drive.Ending.{Ending}
-use Rattle.run.specs.Sinks.{is_stopped, all_painted, all_shown, past_of, told, Driven}
+use Rattle.whole_machine.proofs.Showing.{longer_run}
+use Rattle.whole_run.specs.declared.drive.Ending.{Ending}
+use Rattle.whole_run.specs.Sinks.{is_stopped, all_painted, all_shown, past_of, told, Driven}
 use Rattle.band.specs.declared.sink.Band.{Band}
 use Rattle.band.specs.Canvas.{Canvas, fits, on_page, paint_onto, page_over}
 use Rattle.band.proofs.Painting.{size, band_rows, canvas, all_fits, white_rows, all_on_page, off_page}

@@ -5,7 +5,7 @@ ghost use Rattle.machine.specs.Laws.{state_of};
 ghost use Rattle.raster.specs.Coverage.{rows};
 
 use crate::sink::{Band, BandSink};
-use run::job::run_job;
+use whole_run::job::run_job;
 
 // the first n bytes white
 fn whiten(bytes: &mut [u8], n: usize)

@@ -3,7 +3,7 @@ ghost use Rattle.band.specs.Canvas.{Canvas, fits, paint_onto, page_over};
 
 use path::extent::Extent;
 use raster::band::paint_band;
-use run::drive::Sink;
+use whole_run::drive::Sink;
 
 // the rows of a page that are asked for: `count` rows of `width` dots from row `first` on
 #[derive(Clone, Copy)]

@@ -5,8 +5,8 @@ use Rattle.std.proofs.lemmas.Bool.{cases_Bool, true≢false}
 use Rattle.path.specs.Path.{Paint}
 use Rattle.machine.specs.Machine.{run, State}
 use Rattle.machine.specs.Laws.{state_of}
-use Rattle.run.specs.declared.drive.Ending.{Ending}
-use Rattle.run.specs.Sinks.{is_stopped, all_painted, all_shown, past_of, told, Driven}
+use Rattle.whole_run.specs.declared.drive.Ending.{Ending}
+use Rattle.whole_run.specs.Sinks.{is_stopped, all_painted, all_shown, past_of, told, Driven}
 use Rattle.listing.specs.Lines.{thing_lines, page_line, page_lines, unshown_line, unshown_lines, listing, listing_of}
 use Rattle.listing.specs.Output.{Output, output, put_text, Wrote}
 use Rattle.listing.specs.Views.{Told, with_thing, with_shown}

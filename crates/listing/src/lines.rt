@@ -2,7 +2,7 @@ ghost use Rattle.std.specs.Prelude.{◌≡◌, ◌+◌, ◌≤◌, [], if◌then
 ghost use Rattle.std.specs.List.{flat_map};
 ghost use Rattle.path.specs.Points.{ahead, point_of};
 ghost use Rattle.path.specs.Stored.{points_in, rings_in, paths_in};
-ghost use Rattle.machine.specs.Abstraction.{paint_in};
+ghost use Rattle.whole_machine.specs.Abstraction.{paint_in};
 ghost use Rattle.listing.specs.Lines.{point_line, subpath_lines, path_lines, clip_lines, thing_lines, page_line, unshown_line};
 ghost use Rattle.listing.specs.Output.{output, Wrote};
 ghost use Rattle.listing.specs.Views.{output_of};

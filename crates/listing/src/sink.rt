@@ -3,7 +3,7 @@ ghost use Rattle.listing.specs.Views.{Told, told_of, with_thing, with_shown};
 
 use super::lines::{write_page, write_thing};
 use path::extent::Extent;
-use run::drive::Sink;
+use whole_run::drive::Sink;
 
 // A listing that is written as a job goes: what is written, how many pages were shown, and whether anything was
 // painted since the last.

@@ -6,7 +6,7 @@ ghost use Rattle.listing.specs.Lines.{listing_of};
 
 use super::lines::write_mark;
 use super::sink::ListingSink;
-use run::job::run_job;
+use whole_run::job::run_job;
 
 // Lists what a job paints, and says how long the listing is, or 2^64 - 1 if it is longer. As much of it as fits stands
 // at the front of the bytes; the words for the path and the clips are 0 after.

@@ -1,14 +1,12 @@
 -- The machine before its first step.
 use Rattle.std.proofs.Common.{◌≡◌, ℕ, ◌<◌, List, [], ◌∷◌, map, reverse, length, take, set, refl, ap, ◌∙◌, arith}
 use Rattle.tokens.specs.Token.{none}
-use Rattle.tokens.specs.Stored.{decode}
+use Rattle.tokens.specs.Stored.{decode, decode_in}
 use Rattle.path.specs.Path.{Ring}
 use Rattle.path.specs.Stored.{paths_in, pieces, pieces_by}
 use Rattle.machine.specs.Machine.{Frame, State, begin}
-use Rattle.machine.specs.Clips.{clips_in}
-use Rattle.machine.specs.Abstraction.{frame_of}
+use Rattle.machine.specs.Abstraction.{frame_of, clips_in}
 use Rattle.machine.specs.declared.machine.Frame as code-Frame
-use Rattle.machine.proofs.Standing.{nothing}
 
 abbrev begun : List Ring → Ring → List (List Ring) → List Frame → State
 begun rs r cs fs =
@@ -27,6 +25,10 @@ begun rs r cs fs =
 no_clips : clips_in [] ≡ []
 unfolding clips_in paths_in pieces pieces_by
 no_clips = refl
+
+nothing : decode [] ≡ none
+unfolding decode decode_in
+nothing = refl
 
 first_frame : (fs : List code-Frame.Frame) (f : code-Frame.Frame) → 0 < length fs → map frame_of (reverse (take 1 (set fs 0 f))) ≡ frame_of f ∷ []
 first_frame [] f some = let no_such : ⊥ = omega arith in absurd no_such

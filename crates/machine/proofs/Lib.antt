@@ -1,9 +1,8 @@
 mod Beginning
-mod ClipLaws
-mod Invariants
-mod KeepLaws
-mod NameLaws
+mod Drawing
 mod Running
-pub mod Showing
+mod Showing
+pub mod Staged
 mod Standing
+mod Stepping
 mod Tops

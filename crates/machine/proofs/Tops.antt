@@ -1,8 +1,7 @@
 -- The front of a list read from its end, each element by what it means: what a push, a look and a pop do to it.
-use Rattle.std.proofs.Common.{◌≡◌, ℕ, suc, ◌+◌, ◌-◌, ◌<◌, ◌≤◌, List, [], ◌∷◌, ◌++◌, map, reverse, length, get_or, take, drop, set, sym, ap, ◌∙◌, inl, inr, arith}
+use Rattle.std.proofs.Common.{◌≡◌, ℕ, ◌+◌, ◌-◌, ◌<◌, ◌≤◌, List, [], ◌∷◌, ◌++◌, map, reverse, length, get_or, take, drop, set, sym, ap, ◌∙◌, inl, inr, arith}
 use lib.ListN.{length-map, length-reverse}
-use lib.Seq.{take-set-lt}
-use Rattle.std.proofs.lemmas.List.{take_more_set, take-take, take-append-drop, append_assoc, reverse-append, length-take-le, length-drop, get_or-map, get_or-reverse, get_or-take, drop_more, drop_all, drop_at, drop-map, map-set, set_at, set_split, set-get_or}
+use Rattle.std.proofs.lemmas.List.{take_more_set, take-take, take-append-drop, reverse-append, length-take-le, length-drop, get_or-map, get_or-reverse, get_or-take, drop_more, drop_all, drop_at, drop-map}
 use Rattle.std.proofs.lemmas.Bool.{cases_lt}
 use Rattle.machine.specs.Abstraction.{tail}
 
@@ -54,22 +53,3 @@ pub tops_set : {A B : Type 0} (f : A → B) (xs : List A) (d : ℕ) (v : A) → 
 tops_set f xs d v some within =
     let k : d ≡ d - 1 + 1 = omega arith in
     ap (λ n. map f (reverse (take n (set xs (d - 1) v)))) k ∙ tops_push f xs (d - 1) v (omega arith) ∙ ap (λ t. f v ∷ t) (tops_tail f xs d some within)
-
-reverse_around : {A : Type 0} (xs ys : List A) (x : A) → reverse (xs ++ (x ∷ ys)) ≡ reverse ys ++ (x ∷ reverse xs)
-reverse_around xs ys x = reverse-append xs (x ∷ ys) ∙ ap (λ l. l ++ reverse xs) (reverse-append (x ∷ []) ys) ∙ append_assoc (reverse ys) (x ∷ []) (reverse xs)
-
-reverse_set : {A : Type 0} (xs : List A) (i : ℕ) (v d : A) → i < length xs → reverse (set xs i v) ≡ set (reverse xs) (length xs - 1 - i) v
-reverse_set xs i v d lt =
-    let many : length (reverse (drop (suc i) xs)) ≡ length xs - 1 - i = omega (arith, length-reverse (drop (suc i) xs), length-drop (suc i) xs) in
-    let whole : xs ≡ take i xs ++ (get_or xs i d ∷ drop (suc i) xs) = sym (set-get_or xs i d) ∙ set_split xs i (get_or xs i d) lt in
-    ap reverse (set_split xs i v lt) ∙ reverse_around (take i xs) (drop (suc i) xs) v
-    ∙ sym (ap (λ l. set (reverse l) (length xs - 1 - i) v) whole ∙ ap (λ l. set l (length xs - 1 - i) v) (reverse_around (take i xs) (drop (suc i) xs) (get_or xs i d)) ∙ set_at (reverse (drop (suc i) xs)) (get_or xs i d) (reverse (take i xs)) v (length xs - 1 - i) many)
-
--- another element i places below the top
-pub tops_put : {A B : Type 0} (f : A → B) (xs : List A) (h i : ℕ) (v : A) → i < h → h ≤ length xs → map f (reverse (take h (set xs (h - 1 - i) v))) ≡ set (map f (reverse (take h xs))) i (f v)
-tops_put f xs h i v lt le =
-    let l = length-take-le h xs le in
-    let k : length (take h xs) - 1 - (h - 1 - i) ≡ i = omega arith in
-    ap (λ y. map f (reverse y)) (take-set-lt h xs (h - 1 - i) v (omega arith)) ∙ ap (map f) (reverse_set (take h xs) (h - 1 - i) v v (omega arith))
-    ∙ ap (λ n. map f (set (reverse (take h xs)) n v)) k
-    ∙ map-set f (reverse (take h xs)) i v

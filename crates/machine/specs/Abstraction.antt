@@ -1,23 +1,21 @@
 -- What the code's machine, its path and its events mean to the written machine. The code holds nothing that was painted or shown before: a state is one for any such past. Cited by the contracts of this crate and of those who drive a machine. Assumes nothing: these are definitions.
-use Rattle.std.specs.Prelude.{◌≡◌, ℕ, ◌+◌, ◌*◌, ◌^◌, ◌<◌, Bool, true, false, List, [], ◌∷◌, ◌++◌, map, reverse, length, take, Some, None, Ok, Err, Option, Result, nat_le, slice_index_or}
-use Rattle.std.specs.Borrow.{Bor}
-use Rattle.tokens.specs.Token.{Tokens}
-use Rattle.tokens.specs.Stored.{decode}
+use Rattle.std.specs.Prelude.{◌≡◌, ℕ, ◌+◌, ◌*◌, ◌^◌, ◌<◌, true, false, List, [], ◌∷◌, ◌++◌, map, reverse, take, Some, None, Ok, Err, Option, Result}
+use Rattle.tokens.specs.Stored.{decode, operator_of}
 use Rattle.path.specs.declared.builder.Path.{Path}
-use Rattle.path.specs.Path.{Point, Ring, Paint, points}
+use Rattle.path.specs.Path.{Point, Ring, Paint}
 use Rattle.path.specs.declared.cursor.Corner.{Corner}
 use Rattle.path.specs.Points.{point, point_of}
-use Rattle.path.specs.Stored.{rings_in}
+use Rattle.path.specs.Stored.{rings_in, paths_in}
 use Rattle.path.specs.Building.{rings_of, ring_of}
-use Rattle.machine.specs.Machine.{Value, amount, code, label, Manner, Binding, Frame, State, Went, on, ends, with_frames, with_manner, near_enough, points_in_all}
-use Rattle.machine.specs.Clips.{clips_in}
+use Rattle.machine.specs.Machine.{Value, amount, code, label, Manner, Frame, State, Went, on, ends, with_frames, near_enough}
+use Rattle.machine.specs.Stage.{unsupported}
 use Rattle.machine.specs.declared.event.Fault.{Fault}
 use Rattle.machine.specs.declared.event.Fault.TheVariants.{StackUnderflow, WrongKind, OutOfRange, Undefined, NoCurrentPoint, NothingKept, LimitExceeded, StepsUsedUp}
 use Rattle.machine.specs.declared.event.Event.{Event}
-use Rattle.machine.specs.declared.event.Event.TheVariants.{On, Painted, Shown, Finished}
+use Rattle.machine.specs.declared.event.Event.TheVariants.{On, Painted, Shown, Finished, Unsupported}
 use Rattle.machine.specs.declared.machine.Value as code-value
 use Rattle.machine.specs.declared.machine.Frame as code-Frame
-use Rattle.machine.specs.declared.graphics.GraphicsState.{GraphicsState}
+use Rattle.machine.specs.declared.machine.GraphicsState.{GraphicsState}
 use Rattle.machine.specs.declared.machine.Machine.{Machine}
 
 -- the number of a fault on the outside
@@ -39,8 +37,12 @@ value_of (code-value.TheVariants.Label k) = label k
 abbrev pub frame_of : code-Frame.Frame → Frame
 frame_of f = record { rest = decode f.rest.now; again = f.again; whole = decode f.whole.now }
 
-abbrev pub graphics_of : List ℕ → GraphicsState → Manner
-graphics_of ws g = record { grey = g.grey; scale = g.scale; left = g.left; top = g.top; clips = clips_in (take g.clips ws) }
+-- clips stand in words one after another, the last one last; the written machine has it first
+unfoldable pub clips_in : List ℕ → List (List Ring)
+clips_in ws = reverse (paths_in ws)
+
+abbrev pub graphics_of : GraphicsState → List ℕ → Manner
+graphics_of g ws = record { grey = g.grey; scale = g.scale; left = g.left; top = g.top; clips = clips_in (take g.clips ws) }
 
 -- the top of the stack, and the innermost frame, come first
 abbrev pub stack_of : Machine → List Value
@@ -48,17 +50,6 @@ stack_of m = map value_of (reverse (take m.height m.values.now))
 
 abbrev pub frames_of : Machine → List Frame
 frames_of m = map frame_of (reverse (take m.depth m.frames.now))
-
--- what a name means by the row of meanings, and what the bound names mean, in the order in which they were first bound
-abbrev pub binding_of : List code-value.Value → ℕ → Binding
-binding_of vs k = record { called = k; means = value_of (slice_index_or vs k (code-value.TheVariants.Number 0)) }
-
-abbrev pub names_of : Machine → List Binding
-names_of m = map (binding_of m.meanings.now) (take m.names m.order.now)
-
--- the kept states, the last one first
-abbrev pub saved_of : Machine → List Manner
-saved_of m = map (graphics_of m.clips.now) (reverse (take m.saves m.kept.now))
 
 -- what was painted since the last page, and the pages shown
 pub record Past : Type 0 where
@@ -74,15 +65,16 @@ with_painted t p = record { paints = t.paints ++ (p ∷ []); pages = t.pages }
 abbrev pub with_page : Past → Past
 with_page t = record { paints = []; pages = t.pages ++ (t.paints ∷ []) }
 
+-- names and kept states: none in this stage
 abbrev pub state : Machine → Path → Past → State
 state m p t =
     record {
       stack = stack_of m;
-      names = names_of m;
+      names = [];
       rings = rings_of p;
       ring = ring_of p;
-      manner = graphics_of m.clips.now m.graphics;
-      saved = saved_of m;
+      manner = graphics_of m.graphics m.clips.now;
+      saved = [];
       paints = t.paints;
       pages = t.pages;
       frames = frames_of m;
@@ -101,6 +93,7 @@ after_event On m p t = on (state m p t)
 after_event (Painted n) m p t = on (state m p (with_painted t (thing_of m p n)))
 after_event Shown m p t = on (state m p (with_page t))
 after_event Finished m p t = ends 0 (state m p t)
+after_event (Unsupported op) m p t = ends (unsupported (operator_of op)) (state m p t)
 
 abbrev pub after : Result Event Fault → Machine → Path → Past → Went
 after (Ok e) m p t = after_event e m p t
@@ -137,14 +130,6 @@ abbrev pub with_numbers : Result (ℕ × ℕ) Fault → State → List Value →
 with_numbers (Ok p) s vs f = f p.0 p.1 vs
 with_numbers (Err e) s vs f = ends (fault_number e) s
 
--- what is done with a body and the stack below it; and a body that was looked at
-abbrev pub BodyOperand : Type 0
-BodyOperand = Tokens → List Value → Went
-
-abbrev pub with_body : Result (Bor (List ℕ)) Fault → State → List Value → BodyOperand → Went
-with_body (Ok b) s vs f = f (decode b.now) vs
-with_body (Err e) s vs f = ends (fault_number e) s
-
 -- where a graphics state puts a point, and that it is on the page
 abbrev pub place_of : GraphicsState → ℕ → ℕ → Point
 place_of g a b = point (g.left + a * g.scale) (g.top + b * g.scale)
@@ -152,21 +137,3 @@ place_of g a b = point (g.left + a * g.scale) (g.top + b * g.scale)
 abbrev pub Placed : Option Corner → Point → Type 0
 Placed None q = near_enough q ≡ false
 Placed (Some c) q = (near_enough q ≡ true) × (point_of c ≡ q) × (c.x < 2 ^ 24) × (c.y < 2 ^ 24)
-
--- another grey
-abbrev pub with_grey : State → ℕ → State
-with_grey s n = with_manner s (record { grey = n; scale = s.manner.scale; left = s.manner.left; top = s.manner.top; clips = s.manner.clips }) s.saved
-
--- another scale, another corner, and one more clip
-abbrev pub with_scale : State → ℕ → State
-with_scale s n = with_manner s (record { grey = s.manner.grey; scale = n; left = s.manner.left; top = s.manner.top; clips = s.manner.clips }) s.saved
-
-abbrev pub with_corner : State → ℕ → ℕ → State
-with_corner s x y = with_manner s (record { grey = s.manner.grey; scale = s.manner.scale; left = x; top = y; clips = s.manner.clips }) s.saved
-
--- whether there may be one more clip, by what all of them count for
-abbrev pub clip_fits : List (List Ring) → List Ring → Bool
-clip_fits cs c = nat_le (1 + points c + (points_in_all cs + length cs)) 1024
-
-abbrev pub with_clip : State → List Ring → State
-with_clip s c = with_manner s (record { grey = s.manner.grey; scale = s.manner.scale; left = s.manner.left; top = s.manner.top; clips = c ∷ s.manner.clips }) s.saved

@@ -1,5 +1,4 @@
 pub mod Machine
-pub mod Clips
-pub mod Names
+pub mod Stage
 pub mod Abstraction
 pub mod Laws

@@ -1,3 +1,5 @@
+use tokens::Operator;
+
 // why a job ends before its end
 #[derive(Clone, Copy)]
 pub enum Fault {
@@ -12,10 +14,12 @@ pub enum Fault {
 }
 
 // Painted(n): the first n words of the path are what was painted, and the path is empty now.
+// Unsupported: the operator's token was taken, and nothing else was done.
 #[derive(Clone, Copy)]
 pub enum Event {
     On,
     Painted(usize),
     Shown,
     Finished,
+    Unsupported(Operator),
 }

@@ -1,17 +1,11 @@
-pub mod beginning;
-pub mod bindings;
-pub mod clipping;
 pub mod frames;
-pub mod keeping;
-pub mod painting;
+pub mod graphics;
+pub mod operators;
 pub mod reading;
 pub mod stack;
+pub mod steps;
 
-ghost use Rattle.std.specs.Prelude.{◌≡◌, ℕ, ◌+◌, ◌<◌, ◌≤◌, true, false, length, get_or, take, slice_index_or};
-ghost use Rattle.machine.specs.Names.{listed, distinct, unset};
-ghost use Rattle.machine.specs.Clips.{Whole, Weighs, Light, plain};
-
-use crate::graphics::GraphicsState;
+ghost use Rattle.std.specs.Prelude.{◌≡◌, ◌≤◌, length};
 
 // a body is the part of the stored tokens that holds it
 #[derive(Clone, Copy)]
@@ -29,43 +23,27 @@ pub struct Frame<'a> {
     pub again: u32,
 }
 
-// A name is bound where its flag is set, and means what stands at its place among the meanings. The first `names` of
-// `order` are the bound names, as they were first bound: the code never asks for that order, the definitions have it.
+// scale and corner in sixteenths of a dot; clips is how many words of clips are in force
+#[derive(Clone, Copy)]
+pub struct GraphicsState {
+    pub grey: u8,
+    pub scale: u32,
+    pub left: u32,
+    pub top: u32,
+    pub clips: usize,
+}
+
 #[derive(Drop)]
 pub struct Machine<'s, 'a> {
     values: &'s mut [Value<'a>],
     height: usize,
     frames: &'s mut [Frame<'a>],
     depth: usize,
-    meanings: &'s mut [Value<'a>],
-    bound: &'s mut [bool],
-    order: &'s mut [u8],
-    names: usize,
     graphics: GraphicsState,
-    kept: &'s mut [GraphicsState],
-    saves: usize,
     clips: &'s mut [u64],
     ghost upright: { height ≤ length values.now },
     ghost room: { length values.now ≡ 256 },
     ghost within: { depth ≤ length frames.now },
     ghost nests: { length frames.now ≡ 64 },
-    ghost meant: { length meanings.now ≡ 256 },
-    ghost flags: { length bound.now ≡ 256 },
-    ghost ordered: { length order.now ≡ 256 },
-    // as many names are bound as flags are set, each once
-    ghost counted: { names + unset bound.now ≡ 256 },
-    ghost once: { distinct (take names order.now) ≡ true },
-    ghost known: { ((k : ℕ) → k < 256 → slice_index_or bound.now k false ≡ listed k (take names order.now)) },
-    ghost stored: { saves ≤ length kept.now },
-    ghost shelves: { length kept.now ≡ 16 },
-    ghost space: { 3072 ≤ length clips.now },
-    ghost front: { Whole clips.now graphics.clips },
-    ghost weighs: { Weighs clips.now graphics.clips graphics.weight },
-    ghost lights: { Light graphics.clips graphics.weight },
-    // the clips of each kept state are a front part of those of the next, and of those in force
-    ghost fronts: { ((i : ℕ) → i < saves → Whole clips.now (get_or kept.now i plain).clips) },
-    ghost weighed: { ((i : ℕ) → i < saves → Weighs clips.now (get_or kept.now i plain).clips (get_or kept.now i plain).weight) },
-    ghost light: { ((i : ℕ) → i < saves → Light (get_or kept.now i plain).clips (get_or kept.now i plain).weight) },
-    ghost nested: { ((i j : ℕ) → i ≤ j → j < saves → (get_or kept.now i plain).clips ≤ (get_or kept.now j plain).clips) },
-    ghost below: { ((i : ℕ) → i < saves → (get_or kept.now i plain).clips ≤ graphics.clips) },
+    ghost cut: { graphics.clips ≤ length clips.now },
 }

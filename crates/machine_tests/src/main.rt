@@ -1,19 +1,11 @@
-// Jobs at the edges of what a machine does, run by it; what it tells of each was written down by hand first (stdout).
-mod calculating;
-mod calling;
-mod graphics;
-mod texts;
+// Jobs at the edges of this stage, run by the machine; what it tells of each was written down by hand first (stdout).
+ghost use Rattle.std.specs.Prelude.{ℕ, ◌+◌, ◌%◌, []};
 
-ghost use Rattle.std.specs.Prelude.{ℕ, ◌+◌, ◌%◌, true, []};
-
-use calculating::report_calculating;
-use calling::report_calling;
-use graphics::report_graphics;
 use machine::outside::number_of_fault;
-use path::extent::Extent;
 use run::drive::{Ending, Sink};
 use run::job::run_job;
 use std::alloc::{AllocError, Global};
+use tokens::number;
 
 const N: u64 = 0;
 
@@ -61,24 +53,21 @@ impl Sink for Tally {
 
     ghost page = { λ v. (v.0, v.1, (v.2 + 1) % 4294967296) };
 
-    ghost more = { λ v. true };
-
     ghost lent = { λ s. [] };
 
-    fn painted(&mut self, _path: &[u64], _extent: Extent, _clips: &[u64], grey: u8) {
+    fn painted(&mut self, _path: &[u64], _clips: &[u64], grey: u8) {
         self.things = self.things.wrapping_add(1);
         self.grey = grey;
     }
 
-    fn shown(&mut self) -> bool {
+    fn shown(&mut self) {
         self.pages = self.pages.wrapping_add(1);
-        true
     }
 }
 
 fn report(rt: &HostRuntime, name: &str, tokens: &[u64], steps: u32) -> anyhow::Result<()> {
     let mut words = [7; 3072];
-    let mut clips = [7; 3072];
+    let mut clips = [7; 4];
     let mut tally = Tally {
         things: 0,
         grey: 0,
@@ -94,7 +83,7 @@ fn report(rt: &HostRuntime, name: &str, tokens: &[u64], steps: u32) -> anyhow::R
     match ending {
         Ending::Finished => println!(rt; "ending 0")?,
         Ending::Failed(fault) => println!(rt; "ending {}", number_of_fault(fault))?,
-        Ending::Stopped => println!(rt; "stopped")?,
+        Ending::Unsupported(op) => println!(rt; "operator {}", number(op))?,
     }
     Ok(())
 }
@@ -162,7 +151,7 @@ fn paths(rt: &HostRuntime) -> anyhow::Result<()> {
 fn other_tokens(rt: &HostRuntime) -> anyhow::Result<()> {
     then(rt, "a body that is not run", &[BODY, 2, D, KEEPS, D, SHOWS])?;
     then(rt, "a body cut short", &[BODY, 9, D, SHOWS])?;
-    then(rt, "a state kept", &[D, KEEPS, D, SHOWS])?;
+    then(rt, "an operator of another stage", &[D, KEEPS, D, SHOWS])?;
     then(rt, "an operator that there is not", &[D, 21, D, SHOWS])?;
     then(rt, "a kind that there is not", &[9, 0, D, SHOWS])?;
     then(rt, "half a token", &[D])
@@ -214,8 +203,5 @@ fn main(rt: HostRuntime) -> anyhow::Result<()> {
     other_tokens(&rt)?;
     step_counts(&rt)?;
     stack_limits(&rt)?;
-    point_limits(&rt)?;
-    report_calculating(&rt)?;
-    report_calling(&rt)?;
-    report_graphics(&rt)
+    point_limits(&rt)
 }

@@ -5,8 +5,8 @@ use Rattle.path.specs.Path.{Point, Ring, points, finished}
 use Rattle.path.specs.Building.{rings_of, ring_of}
 use Rattle.path.specs.declared.builder.Path.{Path}
 use Rattle.machine.specs.Machine.{State, Value, Went, on, ends, with_path, with_stack, placed, near_enough, go_to, line_to}
-use Rattle.machine.specs.Abstraction.{Past, state}
-use Rattle.machine.specs.declared.machine.Machine.{Machine}
+use Rattle.whole_machine.specs.Abstraction.{Past, state}
+use Rattle.whole_machine.specs.declared.state.Machine.{Machine}
 
 -- a machine beside another path
 pub beside : (m : Machine) (p q : Path) (t : Past) (rs : List Ring) (r : Ring) → rings_of q ≡ rs → ring_of q ≡ r → state m q t ≡ with_path (state m p t) rs r

@@ -2,7 +2,7 @@
 use Rattle.std.proofs.Common.{◌≡◌, ℕ, suc, ◌-◌, ◌<◌, List, [], ◌∷◌, sym, ap, ◌∙◌, arith}
 use Rattle.tokens.specs.Token.{Token, Tokens, none, more}
 use Rattle.machine.specs.Machine.{State, Frame, Went, on, ends, with_frames, run_token, advance, step_in, step}
-use Rattle.machine.specs.Abstraction.{topped, tail, with_top, without_top}
+use Rattle.whole_machine.specs.Abstraction.{topped, tail, with_top, without_top}
 
 pub finished_there : (s : State) → s.frames ≡ [] → ends 0 s ≡ step s
 unfolding step_in

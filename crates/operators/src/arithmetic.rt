@@ -1,10 +1,10 @@
 ghost use Rattle.std.specs.Prelude.{◌≡◌, drop};
 ghost use Rattle.tokens.specs.Token.{adds, takes, multiplies, divides, is_less};
 ghost use Rattle.machine.specs.Machine.{operate, push_number};
-ghost use Rattle.machine.specs.Abstraction.{Past, state, stack_of, after};
+ghost use Rattle.whole_machine.specs.Abstraction.{Past, state, stack_of, after};
 
-use machine::event::{Event, Fault};
-use machine::machine::{Machine, Value};
+use whole_machine::event::{Event, Fault};
+use whole_machine::state::{Machine, Value};
 use path::builder::Path;
 
 // results are below this

@@ -1,10 +1,10 @@
 ghost use Rattle.std.specs.Prelude.{◌≡◌, []};
 ghost use Rattle.tokens.specs.Token.{defines, repeats, when};
 ghost use Rattle.machine.specs.Machine.{operate, call, found};
-ghost use Rattle.machine.specs.Abstraction.{Past, state, names_of, after};
+ghost use Rattle.whole_machine.specs.Abstraction.{Past, state, names_of, after};
 
-use machine::event::{Event, Fault};
-use machine::machine::{Machine, Value};
+use whole_machine::event::{Event, Fault};
+use whole_machine::state::{Machine, Value};
 use path::builder::Path;
 
 // a name means a value from now on

@@ -1,10 +1,10 @@
 ghost use Rattle.std.specs.Prelude.{◌≡◌};
 ghost use Rattle.tokens.specs.Token.{moves, lines, fills, shows};
 ghost use Rattle.machine.specs.Machine.{operate};
-ghost use Rattle.machine.specs.Abstraction.{Past, state, after, after_event};
+ghost use Rattle.whole_machine.specs.Abstraction.{Past, state, after, after_event};
 
-use machine::event::{Event, Fault};
-use machine::machine::Machine;
+use whole_machine::event::{Event, Fault};
+use whole_machine::state::Machine;
 use path::builder::Path;
 
 // a new subpath begins at a point

@@ -1,15 +1,15 @@
 ghost use Rattle.std.specs.Prelude.{◌≡◌};
 ghost use Rattle.tokens.specs.Stored.{operator_of};
 ghost use Rattle.machine.specs.Machine.{operate};
-ghost use Rattle.machine.specs.Abstraction.{Past, state, after};
+ghost use Rattle.whole_machine.specs.Abstraction.{Past, state, after};
 
 use crate::arithmetic::{add, compare, divide, multiply, subtract};
 use crate::calling::{branch, define, repeat};
 use crate::drawing::{line_to, move_to, paint_path, show_page};
 use crate::graphics::{change_grey, change_scale, clip, shift};
 use crate::stack::{copy, discard, swap};
-use machine::event::{Event, Fault};
-use machine::machine::Machine;
+use whole_machine::event::{Event, Fault};
+use whole_machine::state::Machine;
 use path::builder::Path;
 use tokens::Operator;
 

@@ -1,10 +1,10 @@
 ghost use Rattle.std.specs.Prelude.{◌≡◌};
 ghost use Rattle.tokens.specs.Token.{copies, drops, swaps};
 ghost use Rattle.machine.specs.Machine.{operate};
-ghost use Rattle.machine.specs.Abstraction.{Past, state, after};
+ghost use Rattle.whole_machine.specs.Abstraction.{Past, state, after};
 
-use machine::event::{Event, Fault};
-use machine::machine::Machine;
+use whole_machine::event::{Event, Fault};
+use whole_machine::state::Machine;
 use path::builder::Path;
 
 pub(crate) fn copy<'s, 'a>(m: &mut Machine<'s, 'a>) -> Result<Event, Fault>

@@ -1,11 +1,11 @@
 ghost use Rattle.std.specs.Prelude.{◌≡◌};
 ghost use Rattle.machine.specs.Machine.{step};
-ghost use Rattle.machine.specs.Abstraction.{Past, state, after};
+ghost use Rattle.whole_machine.specs.Abstraction.{Past, state, after};
 
 use crate::calling::call_name;
 use crate::perform::perform;
-use machine::event::{Event, Fault};
-use machine::machine::{Frame, Machine, Value};
+use whole_machine::event::{Event, Fault};
+use whole_machine::state::{Frame, Machine, Value};
 use path::builder::Path;
 use tokens::{Token, next_token};
 

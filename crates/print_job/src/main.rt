@@ -1,36 +1,101 @@
-// Prints a job: its pages as text or as pictures, and how it ends; or by which number and at which place it is refused.
-//
-// words of the command line -> options; the job's bytes -> memory lent for it -> a session -> pages, in chunks of rows
-mod failure;
-mod memory;
-mod options;
-mod pages;
+// Reads a job from a file or standard input, and says how many tokens it has, or by which number and at which place it is refused.
+ghost use Rattle.std.specs.Prelude.{◌≤◌, IfOk};
 
-use failure::Failure;
-use memory::{bytes_for, numbers_for};
-use options::{Options, command_line};
-use pages::{print_pages, print_refusal};
-use session::session::open;
+use anyhow::anyhow;
+use std::alloc::Global;
 use std::io::Read;
-use std::{fs, io};
+use std::{env, fs, io};
+use text::count_tokens;
 
-const USAGE: &str = "print_job [options] [FILE]
+const USAGE: &str = "print_job [--width W] [--height H] [FILE]
 
-Prints the job in FILE, or from standard input where FILE is absent or -:
-each row of a page as a line, # for black, . for white and + for other greys,
-an empty line between pages, and at last 'pages P ending E'. What is refused
-is the one line 'refused K at P'.
+Reads a job from FILE, or from standard input where FILE is absent or -,
+and prints 'tokens N', braces counted, or 'refused K at P'.
 
-  --width W       dots in a row of a page, 1 to 8192 (64)
-  --height H      rows of a page, 1 to 65535 (32)
-  --band B        rows that are asked for at a time, 1 to 64 (64)
-  --keep K        how many numbers the printer may keep between bands (0)
-  --steps N       how many steps the job may take, up to 1000000000 (that)
-  --page P        this page alone, counted from 1
-  --rows FROM-TO  these rows of the page alone, counted from 0, TO not included
-  --format F      text, or pgm: binary PGM pictures one after the other, and the
-                  last line on standard error (text)
-  --help          this text";
+  --width W    dots in a row of a page, 1 to 8192 (64 where it is absent)
+  --height H   rows of a page, 1 to 65535 (64 where it is absent)
+  --help       this text
+
+Pages are not printed yet: width and height are checked and no more.";
+
+// What the command line asks for.
+#[derive(Drop)]
+struct Options {
+    width: u32,
+    height: u32,
+    file: String,
+    help: bool,
+    ghost wide: { (1 ≤ width) × (width ≤ 8192) },
+    ghost tall: { (1 ≤ height) × (height ≤ 65535) },
+}
+
+// What the next word of the command line is.
+#[derive(Clone, Copy)]
+enum Expected {
+    Program,
+    Word,
+    Width,
+    Height,
+}
+
+// A number that stands behind an option, from 1 to its limit.
+fn number(heap: Global, option: &str, text: &str, limit: u32) -> anyhow::Result<u32>
+    ensures { IfOk result (λ n. (1 ≤ n) × (n ≤ limit)) }
+{
+    if let Ok(n) = text.parse::<u32>() {
+        if n >= 1 && n <= limit {
+            return Ok(n);
+        }
+    }
+    Err(anyhow!(format!(in heap; "{option} takes a whole number from 1 to {limit}, not '{text}'")?))
+}
+
+// One word of the command line, and what is expected behind it.
+fn take_word(
+    heap: Global,
+    o: &mut Options,
+    expected: Expected,
+    word: String,
+) -> anyhow::Result<Expected> {
+    match expected {
+        Expected::Program => {}
+        Expected::Width => o.width = number(heap, "--width", word.as_str(), 8192)?,
+        Expected::Height => o.height = number(heap, "--height", word.as_str(), 65535)?,
+        Expected::Word => match word.as_str() {
+            "--width" => return Ok(Expected::Width),
+            "--height" => return Ok(Expected::Height),
+            "--help" => o.help = true,
+            _ => {
+                if word.as_str().starts_with("--") {
+                    return Err(anyhow!(format!(in heap;
+                        "unknown option {word}: --help lists the options"
+                    )?));
+                }
+                o.file = word;
+            }
+        },
+    }
+    Ok(Expected::Word)
+}
+
+fn command_line(rt: &HostRuntime) -> anyhow::Result<Options> {
+    let heap = rt.alloc();
+    let mut o = Options {
+        width: 64,
+        height: 64,
+        file: String::from_str(heap, "-")?,
+        help: false,
+    };
+    let mut expected = Expected::Program;
+    for word in env::args(rt)? {
+        expected = take_word(heap, &mut o, expected, word)?;
+    }
+    match expected {
+        Expected::Width => Err(anyhow!("--width lacks its number, as in --width 64")),
+        Expected::Height => Err(anyhow!("--height lacks its number, as in --height 64")),
+        _ => Ok(o),
+    }
+}
 
 fn job(rt: &HostRuntime, file: &str) -> io::Result<Vec<u8>> {
     if file == "-" {
@@ -41,36 +106,34 @@ fn job(rt: &HostRuntime, file: &str) -> io::Result<Vec<u8>> {
     fs::read(rt, file)
 }
 
-fn print_job(rt: &HostRuntime, source: &[u8], o: &Options) -> Result<(), Failure> {
-    let mut words = numbers_for(rt.alloc(), source, o.order);
-    let mut bytes = bytes_for(rt.alloc(), o.order);
-    match open(source, o.order, words.as_mut_slice(), bytes.as_mut_slice()) {
-        Ok(session) => {
-            let _done = print_pages(rt, session, o)?;
-            Ok(())
+fn print_answer(rt: &HostRuntime, source: &[u8]) -> io::Result<()> {
+    match count_tokens(source) {
+        Ok(n) => println!(rt; "tokens {n}"),
+        Err(refusal) => {
+            let number = refusal.number();
+            let place = refusal.place();
+            println!(rt; "refused {number} at {place}")
         }
-        Err(refused) => print_refusal(rt, refused.why.number(), refused.why.place()),
     }
 }
 
-fn run(rt: &HostRuntime) -> Result<(), Failure> {
+fn run(rt: &HostRuntime) -> anyhow::Result<()> {
     let o = command_line(rt)?;
     if o.help {
         println!(rt; "{USAGE}")?;
         return Ok(());
     }
     match job(rt, o.file.as_str()) {
-        Ok(source) => print_job(rt, source.as_slice(), &o),
+        Ok(bytes) => print_answer(rt, bytes.as_slice())?,
         Err(e) => {
             let file = o.file.as_str();
-            Err(Failure::Said(format!(in rt.alloc();
-                "cannot read {file}: {e}: give the name of a job, or - for standard input"
-            )?))
+            return Err(anyhow!(format!(in rt.alloc(); "cannot read {file}: {e}")?));
         }
     }
+    Ok(())
 }
 
-fn main(rt: HostRuntime) -> Result<(), Failure> {
+fn main(rt: HostRuntime) -> anyhow::Result<()> {
     match run(&rt) {
         Ok(()) => Ok(()),
         Err(e) => {

@@ -1,20 +1,15 @@
 -- Rows of dots as bytes: what stands where, one row more, and a whole band with one thing more painted.
-use Rattle.std.proofs.Common.{◌≡◌, ℕ, zero, suc, ◌+◌, ◌-◌, ◌*◌, ◌/◌, ◌%◌, ◌<◌, ◌≤◌, false, cond, ◌&&◌, ltb, leb, List, [], ◌∷◌, ◌++◌, length, get_or, take, drop, replicate, sym, refl, ap, ◌∙◌, inl, inr, add-zero, add-suc, mul-le-mul_right, suc-mul, suc-add, zero-mul, arith, length-append, length-drop, length-take}
-use mathlib.Core.Bool.{and-false}
+use Rattle.std.proofs.Common.{◌≡◌, ℕ, zero, suc, ◌+◌, ◌-◌, ◌*◌, ◌/◌, ◌%◌, ◌<◌, ◌≤◌, false, cond, List, [], ◌∷◌, ◌++◌, length, get_or, take, drop, replicate, sym, refl, ap, ◌∙◌, inl, inr, add-zero, add-suc, mul-le-mul_right, suc-mul, suc-add, zero-mul, arith, length-append, length-drop, length-take}
 use borrow.Rule.Slice.PartMut.{put_mid}
 use lib.ListN.{length-replicate}
 use Rattle.bits.specs.Row.{Empty}
 use Rattle.std.proofs.lemmas.List.{get_or_append_left, get_or-append_right, get_or_at, get_or-take, get_or-drop, get_or-replicate, get_or_past, ext_get_or}
 use Rattle.std.proofs.lemmas.Nat.{div_below, mod_below, div-add-mod'}
-use Rattle.std.proofs.lemmas.Bool.{cases_lt, lt-leb, le-leb, lt-ltb, le-ltb, and_from}
+use Rattle.std.proofs.lemmas.Bool.{cases_lt}
 use Rattle.bits.proofs.PartLaws.{put_before, put_in, put_past}
 use Rattle.path.specs.Path.{Paint}
-use Rattle.path.specs.Extent.{ExtentOf}
-use Rattle.path.specs.declared.extent.Extent.{Extent}
-use Rattle.raster.specs.Band.{reaches, PaintedWithin, PaintedBand}
-use Rattle.raster.specs.Coverage.{in_path, in_all, covers, dot_on, dot, row, rows}
-use Rattle.raster.specs.Extent.{clips_top, clips_bottom}
-use Rattle.raster.proofs.ExtentLaws.{path_over, path_under, clips_over, clips_under}
+use Rattle.raster.specs.Band.{PaintedBand}
+use Rattle.raster.specs.Coverage.{covers, dot_on, dot, row, rows}
 
 -- what is painted last is on top
 pub dot_more : (ps : List Paint) (t : Paint) (x y g : ℕ) → dot_on (ps ++ (t ∷ [])) x y g ≡ cond (covers t x y) t.grey (dot_on ps x y g)
@@ -105,7 +100,7 @@ banded_more f was bytes part w start r above fits b len painted =
     )
 
 -- the rows of some things and of one more, dot by dot
-pub painted_more : (was bytes : List ℕ) (w y n : ℕ) (t : Paint) → length bytes ≡ length was → n * w ≤ length was →
+painted_more : (was bytes : List ℕ) (w y n : ℕ) (t : Paint) → length bytes ≡ length was → n * w ≤ length was →
     ((r x : ℕ) → r < n → x < w → get_or bytes (r * w + x) 0 ≡ cond (covers t x (y + r)) t.grey (get_or was (r * w + x) 0)) → ((i : ℕ) → n * w ≤ i → get_or bytes i 0 ≡ get_or was i 0) →
     (ps : List Paint) → take (n * w) was ≡ rows ps w y n → bytes ≡ rows (ps ++ (t ∷ [])) w y n ++ drop (n * w) was
 painted_more was bytes w y n t same fits one behind ps e =
@@ -136,74 +131,28 @@ painted_more was bytes w y n t same fits one behind ps e =
           ∙ sym (get_or-append_right new (drop (n * w) was) (n * w) i 0 l past)
     ])
 
--- a thing has no dot of row y at x within the extent
-abbrev Misses : Extent → Paint → ℕ → ℕ → Type 0
-Misses e t x y = (reaches e (16 * y + 8) && covers t x y) ≡ false
-
-pub misses_above : (e : Extent) (t : Paint) (x y : ℕ) → 16 * y + 8 < e.top → Misses e t x y
-misses_above e t x y lt = ap (λ v. (v && ltb (16 * y + 8) e.bottom) && covers t x y) (lt-leb e.top (16 * y + 8) lt)
-
-pub misses_below : (e : Extent) (t : Paint) (x y : ℕ) → e.bottom ≤ 16 * y + 8 → Misses e t x y
-misses_below e t x y le =
-    ap (λ v. (leb e.top (16 * y + 8) && v) && covers t x y) (le-ltb (16 * y + 8) e.bottom le) ∙ ap (λ v. v && covers t x y) (and-false (leb e.top (16 * y + 8)))
-
-misses_clipped : (e : Extent) (t : Paint) (x y : ℕ) → in_all t.clips (16 * x + 8) (16 * y + 8) ≡ false → Misses e t x y
-misses_clipped e t x y none =
-    ap (λ v. reaches e (16 * y + 8) && (in_path t.path (16 * x + 8) (16 * y + 8) && v)) none
-    ∙ ap (λ v. reaches e (16 * y + 8) && v) (and-false (in_path t.path (16 * x + 8) (16 * y + 8)))
-    ∙ and-false (reaches e (16 * y + 8))
-
--- above or below what the clips leave of the extent
-pub misses_over : (e : Extent) (t : Paint) (x y : ℕ) → 16 * y + 8 < clips_top e.top t.clips → Misses e t x y
-misses_over e t x y lt = elim (clips_over t.clips e.top (16 * x + 8) (16 * y + 8) lt) [ inl above ↦ misses_above e t x y above | inr none ↦ misses_clipped e t x y none ]
-
-pub misses_under : (e : Extent) (t : Paint) (x y : ℕ) → clips_bottom e.bottom t.clips ≤ 16 * y + 8 → Misses e t x y
-misses_under e t x y le = elim (clips_under t.clips e.bottom (16 * x + 8) (16 * y + 8) le) [ inl below ↦ misses_below e t x y below | inr none ↦ misses_clipped e t x y none ]
-
--- a band of n rows of which those from start up to before end are painted and lie within the extent, and the others have nothing to paint
-pub band_within : (was bytes : List ℕ) (w y n start end : ℕ) (t : Paint) (e : Extent) →
+-- a band of n rows of which those from start up to before end are painted and the others have nothing to paint
+pub band_painted : (was bytes : List ℕ) (w y n start end : ℕ) (t : Paint) → length bytes ≡ length was → n * w ≤ length was →
     ((r x : ℕ) → start ≤ r → r < end → x < w → get_or bytes (r * w + x) 0 ≡ cond (covers t x (y + r)) t.grey (get_or was (r * w + x) 0)) →
     ((i : ℕ) → i < start * w → get_or bytes i 0 ≡ get_or was i 0) → ((i : ℕ) → end * w ≤ i → get_or bytes i 0 ≡ get_or was i 0) → end ≤ n →
-    ((r x : ℕ) → r < start → Misses e t x (y + r)) → ((r x : ℕ) → end ≤ r → r < n → Misses e t x (y + r)) →
-    ((r : ℕ) → start ≤ r → r < end → (e.top ≤ 16 * (y + r) + 8) × (16 * (y + r) + 8 < e.bottom)) →
-    PaintedWithin was bytes w y n t e
-band_within was bytes w y n start end t e value before rest order over under inside = record { dots = one; rest = λ i le. let o = mul-le-mul_right {m = end} {n = n} w order in rest i (omega arith) }
+    ((r x : ℕ) → r < start → covers t x (y + r) ≡ false) → ((r x : ℕ) → end ≤ r → r < n → covers t x (y + r) ≡ false) →
+    PaintedBand was bytes w y n t
+band_painted was bytes w y n start end t same fits value before rest order over under =
+    record { dots = one; rest = behind; more = λ ps e. painted_more was bytes w y n t same fits one behind ps e }
   where
-    one : (r x : ℕ) → r < n → x < w → get_or bytes (r * w + x) 0 ≡ cond (reaches e (16 * (y + r) + 8) && covers t x (y + r)) t.grey (get_or was (r * w + x) 0)
+    one : (r x : ℕ) → r < n → x < w → get_or bytes (r * w + x) 0 ≡ cond (covers t x (y + r)) t.grey (get_or was (r * w + x) 0)
     one r x lr lx =
         elim (cases_lt r start) [
           | inl early ↦ let b = row_ends r start w early in before (r * w + x) (omega arith) ∙ sym (ap (λ c. cond c t.grey (get_or was (r * w + x) 0)) (over r x early))
           | inr from ↦
               elim (cases_lt r end) [
-                | inl less ↦
-                    let h = inside r from less in
-                    value r x from less lx ∙ sym (ap (λ c. cond (c && covers t x (y + r)) t.grey (get_or was (r * w + x) 0)) (and_from (leb e.top (16 * (y + r) + 8)) (ltb (16 * (y + r) + 8) e.bottom) (le-leb e.top (16 * (y + r) + 8) h.0) (lt-ltb (16 * (y + r) + 8) e.bottom h.1)))
+                | inl inside ↦ value r x from inside lx
                 | inr late ↦ let b = mul-le-mul_right {m = end} {n = r} w late in rest (r * w + x) (omega arith) ∙ sym (ap (λ c. cond c t.grey (get_or was (r * w + x) 0)) (under r x late lr))
               ]
         ]
 
--- within the path's own extent all of the thing is painted
-pub band_painted : (was bytes : List ℕ) (w y n : ℕ) (t : Paint) (e : Extent) → length bytes ≡ length was → n * w ≤ length was → PaintedWithin was bytes w y n t e → ExtentOf e t.path → PaintedBand was bytes w y n t
-band_painted was bytes w y n t e same fits p own = record { dots = one; rest = p.rest; more = λ ps h. painted_more was bytes w y n t same fits one p.rest ps h }
-  where
-    gone : (x r : ℕ) → in_path t.path (16 * x + 8) (16 * (y + r) + 8) ≡ false → (reaches e (16 * (y + r) + 8) && covers t x (y + r)) ≡ covers t x (y + r)
-    gone x r out =
-        let none : covers t x (y + r) ≡ false = ap (λ v. v && in_all t.clips (16 * x + 8) (16 * (y + r) + 8)) out in
-        ap (λ v. reaches e (16 * (y + r) + 8) && v) none ∙ and-false (reaches e (16 * (y + r) + 8)) ∙ sym none
-
-    all : (x r : ℕ) → (reaches e (16 * (y + r) + 8) && covers t x (y + r)) ≡ covers t x (y + r)
-    all x r =
-        elim (cases_lt (16 * (y + r) + 8) e.top) [
-          | inl above ↦ gone x r (path_over t.path 16777216 (16 * x + 8) (16 * (y + r) + 8) (let h = own.top in omega arith))
-          | inr from ↦
-              elim (cases_lt (16 * (y + r) + 8) e.bottom) [
-                | inl inside ↦ ap (λ v. v && covers t x (y + r)) (and_from (leb e.top (16 * (y + r) + 8)) (ltb (16 * (y + r) + 8) e.bottom) (le-leb e.top (16 * (y + r) + 8) from) (lt-ltb (16 * (y + r) + 8) e.bottom inside))
-                | inr below ↦ gone x r (path_under t.path 0 (16 * x + 8) (16 * (y + r) + 8) (let h = own.bottom in omega arith))
-              ]
-        ]
-
-    one : (r x : ℕ) → r < n → x < w → get_or bytes (r * w + x) 0 ≡ cond (covers t x (y + r)) t.grey (get_or was (r * w + x) 0)
-    one r x lr lx = p.dots r x lr lx ∙ ap (λ c. cond c t.grey (get_or was (r * w + x) 0)) (all x r)
+    behind : (i : ℕ) → n * w ≤ i → get_or bytes i 0 ≡ get_or was i 0
+    behind i le = let o = mul-le-mul_right {m = end} {n = n} w order in rest i (omega arith)
 
 -- the front of an array of zeros
 pub zeros_length : (n : ℕ) → n ≤ 128 → length (take (n - 0) (drop 0 (replicate {A = ℕ} 128 0))) ≡ n

@@ -1,7 +1,7 @@
-pub mod BandLaws
+mod BandLaws
 mod CrossLaws
 mod EdgeLaws
-mod ExtentLaws
+mod LevelLaws
 mod Moving
-pub mod Painting
+mod Painting
 mod Rings

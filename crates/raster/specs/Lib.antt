@@ -1,5 +1,5 @@
 pub mod Band
 pub mod Coverage
 pub mod Laws
-pub mod Extent
+pub mod Levels
 pub mod Thing

@@ -1,18 +1,17 @@
 ghost use Rattle.std.specs.Prelude.{◌≡◌, ℕ, ◌+◌, ◌*◌, ◌^◌, ◌<◌, ◌≤◌, ◌&&◌, length, if◌then◌else◌, slice_index};
 ghost use Rattle.bits.specs.Row.{bit_at, Within, Empty};
-ghost use Rattle.path.specs.Points.{ahead};
 ghost use Rattle.path.specs.Stored.{rings_in, paths_in};
 ghost use Rattle.raster.specs.Coverage.{in_path, in_all};
 
 use super::crossing::cross_path;
 use bits::painting::paint;
 use bits::row::{Span, clear, keep_common, nothing, sweep};
-use path::cursor::Cursor;
+use path::cursor::first_path;
 
 // Sets the bits of the dots from `left` on that the path covers at the level.
-fn cover(bits: &mut [u64], path: Cursor, level: u32, left: usize) -> Span
+fn cover(bits: &mut [u64], path: &[u64], level: u32, left: usize) -> Span
     requires empty { Empty bits.old }
-    ensures value { (x : ℕ) → left ≤ x → x < 64 * length bits.old → bit_at bits.new x ≡ in_path (rings_in (ahead path.entry)) (16 * x + 8) level }
+    ensures value { (x : ℕ) → left ≤ x → x < 64 * length bits.old → bit_at bits.new x ≡ in_path (rings_in path.now) (16 * x + 8) level }
     ensures within { Within bits.new result.low result.high }
 {
     let none = nothing(bits);
@@ -21,28 +20,29 @@ fn cover(bits: &mut [u64], path: Cursor, level: u32, left: usize) -> Span
 }
 
 // Keeps the bits of the dots that every clip covers too. `mask` is for one clip's bits, as far as the row's are set.
-fn clip(bits: &mut [u64], mask: &mut [u64], clips: Cursor, level: u32, span: Span)
+fn clip(bits: &mut [u64], mask: &mut [u64], clips: &[u64], level: u32, span: Span)
     requires len { (length mask.old ≡ span.high) × (length bits.old < 2 ^ 32) × (span.low < span.high) }
     requires empty { Empty mask.old }
     requires within { Within bits.old span.low span.high }
-    ensures value { (x : ℕ) → bit_at bits.new x ≡ (bit_at bits.old x && in_all (paths_in (ahead clips.entry)) (16 * x + 8) level) }
+    ensures value { (x : ℕ) → bit_at bits.new x ≡ (bit_at bits.old x && in_all (paths_in clips.now) (16 * x + 8) level) }
     ensures within { Within bits.new span.low span.high }
     ensures empty { Empty mask.new }
 {
     let left = 64 * span.low;
     let mut rest = clips;
-    while let Some(path) = rest.next_path() {
+    while let Some((path, others)) = first_path(rest) {
         let covered = cover(mask, path, level, left);
         keep_common(bits, mask, span);
         clear(mask, covered);
+        rest = others;
     }
 }
 
 // Writes grey to the dots of a row that the path and all clips cover at the level. Both rows of bits are empty before and after.
 pub fn paint_row(
     row: &mut [u8],
-    path: Cursor,
-    clips: Cursor,
+    path: &[u64],
+    clips: &[u64],
     grey: u8,
     level: u32,
     bits: &mut [u64],
@@ -50,7 +50,7 @@ pub fn paint_row(
 )
     requires len { (length mask.old ≡ length bits.old) × (length bits.old < 2 ^ 32) × (length row.old ≤ 64 * length bits.old) }
     requires empty { (Empty bits.old) × (Empty mask.old) }
-    ensures value { (x : ℕ) → x < length row.old → slice_index row.new x ≡ (if in_path (rings_in (ahead path.entry)) (16 * x + 8) level && in_all (paths_in (ahead clips.entry)) (16 * x + 8) level then grey else slice_index row.old x) }
+    ensures value { (x : ℕ) → x < length row.old → slice_index row.new x ≡ (if in_path (rings_in path.now) (16 * x + 8) level && in_all (paths_in clips.now) (16 * x + 8) level then grey else slice_index row.old x) }
     ensures bits { Empty bits.new }
     ensures mask { Empty mask.new }
 {

@@ -1,12 +1,12 @@
 ghost use Rattle.std.specs.Prelude.{◌≡◌, ℕ, suc, ◌+◌, ◌*◌, ◌^◌, ◌<◌, ◌≤◌, length};
 ghost use Rattle.bits.specs.Row.{bit_at, odd_below, Within};
-ghost use Rattle.path.specs.Points.{point_of, ahead};
+ghost use Rattle.path.specs.Points.{point_of};
 ghost use Rattle.path.specs.Stored.{points_in, rings_in};
 ghost use Rattle.raster.specs.Coverage.{crosses, differ, in_ring, in_path};
 
 use super::edge::crossed;
 use bits::row::{Span, toggle};
-use path::cursor::{Corner, Cursor};
+use path::cursor::{Corner, first_subpath, next_point};
 
 // Changes the bit of the first dot from `left` on that is past the edge's crossing with the level, if there is such a dot.
 fn cross(bits: &mut [u64], from: Corner, to: Corner, level: u32, left: usize, span: Span) -> Span
@@ -28,38 +28,36 @@ fn cross(bits: &mut [u64], from: Corner, to: Corner, level: u32, left: usize, sp
 }
 
 // The edges of a subpath, with the one back to its first point.
-fn cross_ring(bits: &mut [u64], points: Cursor, level: u32, left: usize, span: Span) -> Span
+fn cross_ring(bits: &mut [u64], points: &[u64], level: u32, left: usize, span: Span) -> Span
     requires within { Within bits.old span.low span.high }
-    ensures value { (x : ℕ) → left ≤ x → x < 64 * length bits.old → odd_below (bit_at bits.new) (suc x) ≡ differ (in_ring (points_in (ahead points.entry)) (16 * x + 8) level) (odd_below (bit_at bits.old) (suc x)) }
+    ensures value { (x : ℕ) → left ≤ x → x < 64 * length bits.old → odd_below (bit_at bits.new) (suc x) ≡ differ (in_ring (points_in points.now) (16 * x + 8) level) (odd_below (bit_at bits.old) (suc x)) }
     ensures within { Within bits.new result.low result.high }
 {
-    let mut rest = points;
-    let Some(first) = rest.next_point() else {
+    let Some((first, others)) = next_point(points) else {
         return span;
     };
     let mut crossings = span;
     let mut last = first;
-    while let Some(next) = rest.next_point() {
+    let mut rest = others;
+    while let Some((next, tail)) = next_point(rest) {
         crossings = cross(bits, last, next, level, left, crossings);
-        // by parts: copied whole, the two numbers would be packed into a word and unpacked at each edge
-        last = Corner {
-            x: next.x,
-            y: next.y,
-        };
+        last = next;
+        rest = tail;
     }
     cross(bits, last, first, level, left, crossings)
 }
 
 // The edges of all subpaths of a path.
-pub fn cross_path(bits: &mut [u64], path: Cursor, level: u32, left: usize, span: Span) -> Span
+pub fn cross_path(bits: &mut [u64], path: &[u64], level: u32, left: usize, span: Span) -> Span
     requires within { Within bits.old span.low span.high }
-    ensures value { (x : ℕ) → left ≤ x → x < 64 * length bits.old → odd_below (bit_at bits.new) (suc x) ≡ differ (in_path (rings_in (ahead path.entry)) (16 * x + 8) level) (odd_below (bit_at bits.old) (suc x)) }
+    ensures value { (x : ℕ) → left ≤ x → x < 64 * length bits.old → odd_below (bit_at bits.new) (suc x) ≡ differ (in_path (rings_in path.now) (16 * x + 8) level) (odd_below (bit_at bits.old) (suc x)) }
     ensures within { Within bits.new result.low result.high }
 {
     let mut crossings = span;
     let mut rest = path;
-    while let Some(points) = rest.next_subpath() {
+    while let Some((points, others)) = first_subpath(rest) {
         crossings = cross_ring(bits, points, level, left, crossings);
+        rest = others;
     }
     crossings
 }

@@ -1,12 +1,12 @@
 // Which dots of a band a path covers, exactly, and grey in those dots.
 //
-// In: a stored path, its extent, stored clips, a grey, and the bytes of a band of rows, one byte a dot.
-// Out: the same bytes with grey in each dot whose middle lies in the path and in every clip.
+// In: a stored path, stored clips, a grey, and the bytes of a band of rows, one byte a dot. Out: the
+// same bytes with grey in each dot whose middle lies in the path and in every clip.
 //
 //     edge      where an edge crosses the middle of a row: the first dot that has its middle at or past it
 //     crossing  one bit is changed there, for each edge of the path
 //     coverage  parities make of these bits the dots that the path covers, cut by each clip's
-//     extent    rows above and below the path or a clip are left alone
+//     levels    rows above and below the path are left alone
 //     band      row by row, into the part of the bytes that is that row
 //
 //     bytes | row first | row first + 1 | .. | count rows of width bytes each | left alone |
@@ -16,5 +16,5 @@ pub mod band;
 mod coverage;
 mod crossing;
 mod edge;
-mod extent;
 pub mod laws;
+mod levels;

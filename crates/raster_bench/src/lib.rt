@@ -7,7 +7,6 @@ ghost use Rattle.std.specs.Prelude.{◌≡◌, true, false, ◌+◌, ◌*◌, �
 ghost use Rattle.raster.specs.Band.{PaintedBand};
 ghost use Rattle.raster.specs.Thing.{thing};
 
-use path::extent::extent_of;
 use raster::band::paint_band;
 
 #[unsafe(no_mangle)]
@@ -30,15 +29,6 @@ pub extern "C" fn raster_paint_band(
     if count * width > bytes.len() {
         return false;
     }
-    paint_band(
-        path,
-        extent_of(path),
-        clips,
-        grey,
-        bytes,
-        width,
-        first,
-        count,
-    );
+    paint_band(path, clips, grey, bytes, width, first, count);
     true
 }

@@ -3,38 +3,11 @@
 // A dot's middle is at 16 * x + 8 and a row's level at 16 * y + 8. From left L to right R a square covers
 // the middles a with L <= a < R, and from top T to bottom B the levels b with T <= b < B. Each expected
 // row below is worked out from that, and none is taken from a run.
-ghost use Rattle.std.specs.Prelude.{◌+◌, ◌*◌, ◌≤◌, length};
 
 #[cfg(test)]
 mod tests {
     use path::builder::Path;
-    use path::extent::{Extent, extent_of};
     use raster::band::paint_band;
-
-    // Paints a path within its own extent.
-    fn paint(
-        path: &[u64],
-        clips: &[u64],
-        grey: u8,
-        bytes: &mut [u8],
-        width: usize,
-        first: u32,
-        count: usize,
-    )
-        requires len { (count * width ≤ length bytes.old) × (width ≤ 8192) }
-        requires near { first + count ≤ 65536 }
-    {
-        paint_band(
-            path,
-            extent_of(path),
-            clips,
-            grey,
-            bytes,
-            width,
-            first,
-            count,
-        );
-    }
 
     // How many dots of a row are not white.
     fn painted_dots(row: &[u8]) -> usize {
@@ -51,7 +24,7 @@ mod tests {
     #[test]
     fn corners_on_middles(rt: HostRuntime) {
         let mut bytes = [255u8; 9];
-        paint(
+        paint_band(
             &[4, 8, 8, 24, 8, 24, 24, 8, 24],
             &[],
             7,
@@ -67,7 +40,7 @@ mod tests {
     #[test]
     fn slope_through_middles(rt: HostRuntime) {
         let mut bytes = [255u8; 9];
-        paint(&[3, 8, 8, 40, 8, 8, 40], &[], 7, &mut bytes, 3, 0, 3);
+        paint_band(&[3, 8, 8, 40, 8, 8, 40], &[], 7, &mut bytes, 3, 0, 3);
         assert!(rt; bytes == [7, 7, 255, 7, 255, 255, 255, 255, 255]);
     }
 
@@ -76,7 +49,7 @@ mod tests {
     #[test]
     fn slopes_between_middles(rt: HostRuntime) {
         let mut bytes = [255u8; 24];
-        paint(&[3, 0, 0, 128, 0, 100, 96], &[], 7, &mut bytes, 8, 0, 3);
+        paint_band(&[3, 0, 0, 128, 0, 100, 96], &[], 7, &mut bytes, 8, 0, 3);
         assert!(rt;
             bytes
                 == [
@@ -90,7 +63,7 @@ mod tests {
     #[test]
     fn horizontal_edge_on_a_level(rt: HostRuntime) {
         let mut bytes = [255u8; 12];
-        paint(
+        paint_band(
             &[6, 0, 0, 32, 0, 32, 24, 16, 24, 16, 48, 0, 48],
             &[],
             7,
@@ -106,7 +79,7 @@ mod tests {
     #[test]
     fn band_in_the_middle(rt: HostRuntime) {
         let mut bytes = [255u8; 7];
-        paint(
+        paint_band(
             &[6, 0, 0, 32, 0, 32, 24, 16, 24, 16, 48, 0, 48],
             &[],
             7,
@@ -122,7 +95,7 @@ mod tests {
     #[test]
     fn over_the_end_of_a_word(rt: HostRuntime) {
         let mut bytes = [255u8; 130];
-        paint(
+        paint_band(
             &[4, 1016, 0, 1033, 0, 1033, 16, 1016, 16],
             &[],
             7,
@@ -139,7 +112,7 @@ mod tests {
     #[test]
     fn first_and_last_column(rt: HostRuntime) {
         let mut bytes = [255u8; 8192];
-        paint(
+        paint_band(
             &[
                 4, 0, 0, 9, 0, 9, 16, 0, 16, 4, 131064, 0, 131072, 0, 131072, 16, 131064, 16,
             ],
@@ -158,7 +131,7 @@ mod tests {
     #[test]
     fn whole_row(rt: HostRuntime) {
         let mut bytes = [255u8; 8192];
-        paint(
+        paint_band(
             &[4, 0, 0, 131072, 0, 131072, 16, 0, 16],
             &[],
             7,
@@ -174,7 +147,7 @@ mod tests {
     #[test]
     fn far_outside_the_page(rt: HostRuntime) {
         let mut bytes = [255u8; 260];
-        paint(
+        paint_band(
             &[4, 16, 0, 16777215, 0, 16777215, 16777215, 16, 16777215],
             &[],
             7,
@@ -191,7 +164,7 @@ mod tests {
     #[test]
     fn nothing_enclosed(rt: HostRuntime) {
         let mut bytes = [255u8; 9];
-        paint(&[1, 8, 8, 2, 0, 0, 40, 48, 0], &[], 7, &mut bytes, 3, 0, 3);
+        paint_band(&[1, 8, 8, 2, 0, 0, 40, 48, 0], &[], 7, &mut bytes, 3, 0, 3);
         assert_eq!(rt; painted_dots(&bytes), 0);
     }
 
@@ -199,7 +172,7 @@ mod tests {
     #[test]
     fn hole(rt: HostRuntime) {
         let mut bytes = [255u8; 16];
-        paint(
+        paint_band(
             &[
                 4, 0, 0, 64, 0, 64, 64, 0, 64, 4, 16, 16, 48, 16, 48, 48, 16, 48,
             ],
@@ -217,7 +190,7 @@ mod tests {
     #[test]
     fn empty_clip(rt: HostRuntime) {
         let mut bytes = [255u8; 4];
-        paint(
+        paint_band(
             &[4, 0, 0, 32, 0, 32, 32, 0, 32],
             &[0],
             7,
@@ -233,7 +206,7 @@ mod tests {
     #[test]
     fn nested_clips(rt: HostRuntime) {
         let mut bytes = [255u8; 16];
-        paint(
+        paint_band(
             &[4, 0, 0, 64, 0, 64, 64, 0, 64],
             &[
                 9, 4, 16, 0, 64, 0, 64, 64, 16, 64, 9, 4, 0, 0, 64, 0, 64, 32, 0, 32,
@@ -256,7 +229,7 @@ mod tests {
     #[test]
     fn clip_from_the_left(rt: HostRuntime) {
         let mut bytes = [255u8; 400];
-        paint(
+        paint_band(
             &[4, 3200, 0, 4800, 0, 4800, 16, 3200, 16],
             &[9, 4, 0, 0, 4000, 0, 4000, 16, 0, 16],
             7,
@@ -273,7 +246,7 @@ mod tests {
     #[test]
     fn clip_all_to_the_left(rt: HostRuntime) {
         let mut bytes = [255u8; 400];
-        paint(
+        paint_band(
             &[4, 3200, 0, 4800, 0, 4800, 16, 3200, 16],
             &[9, 4, 0, 0, 1600, 0, 1600, 16, 0, 16],
             7,
@@ -289,7 +262,7 @@ mod tests {
     #[test]
     fn any_words(rt: HostRuntime) {
         let mut bytes = [255u8; 4];
-        paint(
+        paint_band(
             &[900, 16777216, 0, 16, 0, 16, 16, 0, 16, 5],
             &[],
             7,
@@ -320,45 +293,20 @@ mod tests {
         assert_eq!(rt; path.points(), 8);
         let used = path.used();
         assert_eq!(rt; used, 18);
-        let extent = path.extent();
-        assert!(rt; extent.top == 0 && extent.bottom == 32);
         let mut bytes = [255u8; 4];
-        paint_band(path.front(used), extent, &[], 7, &mut bytes, 2, 0, 2);
+        paint_band(path.front(used), &[], 7, &mut bytes, 2, 0, 2);
         assert!(rt; bytes == [7, 255, 7, 7]);
         path.clear();
         assert_eq!(rt; path.points(), 0);
-        let none = path.extent();
-        assert!(rt; none.top == 16777216 && none.bottom == 0);
-        paint_band(path.front(used), extent, &[], 9, &mut bytes, 2, 0, 2);
+        paint_band(path.front(used), &[], 9, &mut bytes, 2, 0, 2);
         assert!(rt; bytes == [9, 255, 9, 9]);
-    }
-
-    // The square from 0 to 64 has the levels 8, 24, 40 and 56, of which the extent from 24 up to before 40 has one.
-    #[test]
-    fn rows_outside_the_extent(rt: HostRuntime) {
-        let mut bytes = [255u8; 4];
-        let extent = Extent {
-            top: 24,
-            bottom: 40,
-        };
-        paint_band(
-            &[4, 0, 0, 64, 0, 64, 64, 0, 64],
-            extent,
-            &[],
-            7,
-            &mut bytes,
-            1,
-            0,
-            4,
-        );
-        assert!(rt; bytes == [255, 7, 255, 255]);
     }
 
     // What is painted later is on top.
     #[test]
     fn on_top(rt: HostRuntime) {
         let mut bytes = [255u8; 4];
-        paint(
+        paint_band(
             &[4, 0, 0, 32, 0, 32, 32, 0, 32],
             &[],
             7,
@@ -367,7 +315,7 @@ mod tests {
             0,
             2,
         );
-        paint(
+        paint_band(
             &[4, 16, 0, 32, 0, 32, 16, 16, 16],
             &[],
             9,

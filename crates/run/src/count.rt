@@ -1,12 +1,12 @@
-ghost use Rattle.std.specs.Prelude.{◌≡◌, ℕ, ◌+◌, ◌%◌, ◌≤◌, true, [], length, replicate};
+ghost use Rattle.std.specs.Prelude.{◌≡◌, [], ℕ, ◌+◌, ◌%◌, ◌≤◌, length, replicate};
 ghost use Rattle.tokens.specs.Stored.{decode};
-ghost use Rattle.machine.specs.Machine.{begin, run};
+ghost use Rattle.machine.specs.Machine.{begin};
 ghost use Rattle.machine.specs.Laws.{state_of, end_of};
+ghost use Rattle.machine.specs.Stage.{run_in_stage};
 ghost use Rattle.run.specs.Sinks.{ending_number};
 
 use crate::drive::{Ending, Sink};
 use crate::job::run_job;
-use path::extent::Extent;
 
 // how many pages a job has shown
 #[derive(Drop)]
@@ -23,15 +23,12 @@ impl Sink for PageCount {
 
     ghost page = { λ n. (n + 1) % 4294967296 };
 
-    ghost more = { λ n. true };
-
     ghost lent = { λ s. [] };
 
-    fn painted(&mut self, _path: &[u64], _extent: Extent, _clips: &[u64], _grey: u8) {}
+    fn painted(&mut self, _path: &[u64], _clips: &[u64], _grey: u8) {}
 
-    fn shown(&mut self) -> bool {
+    fn shown(&mut self) {
         self.pages = self.pages.wrapping_add(1);
-        true
     }
 }
 
@@ -43,11 +40,11 @@ pub struct Outcome {
 
 // how a job ends, and how many pages it shows
 pub fn count_pages(tokens: &[u64], words: &mut [u64], clips: &mut [u64], steps: u32) -> Outcome
-    requires { (3072 ≤ length words.old) × (3072 ≤ length clips.old) }
-    ensures pages { result.pages ≡ length (state_of (run steps (begin (decode tokens.now)))).pages }
+    requires { 3072 ≤ length words.old }
+    ensures pages { result.pages ≡ length (state_of (run_in_stage steps (begin (decode tokens.now)))).pages }
     ensures words { words.new ≡ replicate (length words.old) 0 }
     ensures clips { clips.new ≡ replicate (length clips.old) 0 }
-    ensures ended { ending_number result.ending ≡ end_of (run steps (begin (decode tokens.now))) }
+    ensures ended { ending_number result.ending ≡ end_of (run_in_stage steps (begin (decode tokens.now))) }
 {
     let mut count = PageCount { pages: 0 };
     let ending = run_job(tokens, words, clips, &mut count, steps);

@@ -2,12 +2,13 @@
 //
 // In: a text, or stored tokens and words for a path and for clips, each slice as a pointer and a length. Out: one
 // number. No C caller is held to a `requires`, so words that are too few are refused, by the largest number.
-ghost use Rattle.std.specs.Prelude.{◌≡◌, min, ◌<◌, ◌≤◌, length, replicate};
+ghost use Rattle.std.specs.Prelude.{◌≡◌, ◌<◌, ◌≤◌, length, replicate};
 ghost use Rattle.tokens.specs.Stored.{decode};
 ghost use Rattle.tokens.specs.Stage.{stage};
 ghost use Rattle.lexer.specs.Reading.{read};
-ghost use Rattle.machine.specs.Machine.{begin, run};
+ghost use Rattle.machine.specs.Machine.{begin};
 ghost use Rattle.machine.specs.Laws.{state_of};
+ghost use Rattle.machine.specs.Stage.{run_in_stage};
 ghost use Rattle.run_bench.specs.Answers.{Counted};
 
 use run::count::count_pages;
@@ -24,7 +25,7 @@ pub extern "C" fn text_count_tokens(source: &[u8]) -> u64
     }
 }
 
-// How many pages stored tokens show in so many steps; the largest number where there are too few words for a path or for clips.
+// How many pages stored tokens show in so many steps; the largest number where there are too few words for a path.
 #[unsafe(no_mangle)]
 pub extern "C" fn run_count_pages(
     tokens: &[u64],
@@ -32,11 +33,11 @@ pub extern "C" fn run_count_pages(
     clips: &mut [u64],
     steps: u32,
 ) -> u64
-    ensures pages { 3072 ≤ length words.old → 3072 ≤ length clips.old → result ≡ length (state_of (run steps (begin (decode tokens.now)))).pages }
-    ensures after { 3072 ≤ length words.old → 3072 ≤ length clips.old → (words.new ≡ replicate (length words.old) 0) × (clips.new ≡ replicate (length clips.old) 0) }
-    ensures refused { min (length words.old) (length clips.old) < 3072 → (result ≡ 18446744073709551615) × (words.new ≡ words.old) × (clips.new ≡ clips.old) }
+    ensures pages { 3072 ≤ length words.old → result ≡ length (state_of (run_in_stage steps (begin (decode tokens.now)))).pages }
+    ensures after { 3072 ≤ length words.old → (words.new ≡ replicate (length words.old) 0) × (clips.new ≡ replicate (length clips.old) 0) }
+    ensures refused { length words.old < 3072 → (result ≡ 18446744073709551615) × (words.new ≡ words.old) × (clips.new ≡ clips.old) }
 {
-    if words.len() < 3072 || clips.len() < 3072 {
+    if words.len() < 3072 {
         return u64::MAX;
     }
     count_pages(tokens, words, clips, steps).pages as u64

@@ -5,7 +5,7 @@ ghost use Rattle.tokens.specs.Stored.{operator_of};
 ghost use Rattle.tokens.specs.Stage.{stage};
 ghost use Rattle.words.specs.Spelling.{found_as, spelled};
 
-use tokens::{Operator, operator_from};
+use tokens::{Operator, number, operator_from};
 
 // How many operators there are.
 const OPERATORS: u64 = 21;
@@ -17,12 +17,12 @@ pub fn same(a: &[u8], b: &[u8]) -> bool
     a == b
 }
 
-// Whether this stage can do an operator: it can do every one.
+// Whether this stage can do an operator.
 pub fn in_stage(op: Operator) -> bool
     ensures { result ≡ stage (number_of (operator_of op)) }
 {
-    let _ = op;
-    true
+    let n = number(op);
+    (11 <= n && n <= 13) || n == 15 || n == 20
 }
 
 // How the operator of a number is spelled; of no other number.

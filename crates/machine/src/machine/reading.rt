@@ -12,12 +12,6 @@ impl<'s, 'a> Machine<'s, 'a> {
         self.graphics.grey
     }
 
-    pub fn scale(&self) -> u32
-        ensures { result ≡ self.now.graphics.scale }
-    {
-        self.graphics.scale
-    }
-
     // the words of the clips in force
     pub fn clip_words(&self) -> &[u64]
         ensures { result.now ≡ take self.now.graphics.clips self.now.clips.now }

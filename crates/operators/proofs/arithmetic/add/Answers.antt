@@ -1,7 +1,7 @@
 use Rattle.std.proofs.Common.{Err, sym, ap, ◌∙◌}
 use Rattle.std.proofs.lemmas.Result.{err_from_is_err_and}
 use Rattle.machine.specs.Machine.{operate}
-use Rattle.machine.specs.Abstraction.{after}
+use Rattle.whole_machine.specs.Abstraction.{after}
 use Rattle.operators.proofs.arithmetic.add.Goals as goal
 
 pub returns-in-err-a : goal.returns-in-err-a

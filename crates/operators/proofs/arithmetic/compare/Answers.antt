@@ -2,7 +2,7 @@ use Rattle.std.proofs.Common.{drop, Err, sym, ap, ◌∙◌, arith}
 use Rattle.std.proofs.lemmas.Result.{err_from_is_err_and}
 use Rattle.std.proofs.lemmas.Bool.{cond-true, cond-false, lt-ltb, le-ltb}
 use Rattle.machine.specs.Machine.{push_number, operate}
-use Rattle.machine.specs.Abstraction.{state, stack_of, after}
+use Rattle.whole_machine.specs.Abstraction.{state, stack_of, after}
 use Rattle.operators.proofs.arithmetic.compare.Goals as goal
 
 pub returns-in-err-a : goal.returns-in-err-a

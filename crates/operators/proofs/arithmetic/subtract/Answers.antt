@@ -2,7 +2,7 @@ use Rattle.std.proofs.Common.{Err, sym, ap, ◌∙◌, arith}
 use Rattle.std.proofs.lemmas.Result.{err_from_is_err_and}
 use Rattle.std.proofs.lemmas.Bool.{cond-true, cond-false, le-leb, lt-leb}
 use Rattle.machine.specs.Machine.{operate}
-use Rattle.machine.specs.Abstraction.{after}
+use Rattle.whole_machine.specs.Abstraction.{after}
 use Rattle.operators.proofs.arithmetic.subtract.Goals as goal
 
 pub returns-in-err-a : goal.returns-in-err-a

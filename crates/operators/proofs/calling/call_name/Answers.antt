@@ -1,7 +1,7 @@
 use Rattle.std.proofs.Common.{◌≡◌, ℕ, List, [], ◌∷◌, sym, refl, ap, ◌∙◌, Bor}
 use Rattle.machine.specs.Machine.{State, push, call}
-use Rattle.machine.specs.Abstraction.{state, value_of}
-use Rattle.machine.specs.declared.machine.Value as code-value
+use Rattle.whole_machine.specs.Abstraction.{state, value_of}
+use Rattle.whole_machine.specs.declared.state.Value as code-value
 use Rattle.operators.proofs.calling.call_name.Goals as goal
 
 pub returns-in-default : goal.returns-in-default

@@ -1,7 +1,7 @@
 use Rattle.std.proofs.Common.{◌≡◌, ℕ, List, [], ◌∷◌, drop, sym, refl, ap, ◌∙◌}
 use Rattle.machine.specs.Machine.{State, Value, ends, on, with_stack, with_names, label, rebound, bind, operate}
-use Rattle.machine.specs.Abstraction.{state, stack_of, value_of}
-use Rattle.machine.specs.declared.machine.Value as code-value
+use Rattle.whole_machine.specs.Abstraction.{state, stack_of, value_of}
+use Rattle.whole_machine.specs.declared.state.Value as code-value
 use Rattle.operators.proofs.calling.define.Goals as goal
 
 pub returns-in-default : goal.returns-in-default

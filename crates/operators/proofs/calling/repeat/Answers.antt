@@ -3,7 +3,7 @@ use Rattle.std.proofs.lemmas.Result.{err_from_is_err_and}
 use Rattle.std.proofs.lemmas.Bool.{cond-true, cond-false, eq-eqb, ne_eqb}
 use Rattle.tokens.specs.Stored.{decode}
 use Rattle.machine.specs.Machine.{with_stack, with_one, enter, operate}
-use Rattle.machine.specs.Abstraction.{state, stack_of, after}
+use Rattle.whole_machine.specs.Abstraction.{state, stack_of, after}
 use Rattle.operators.proofs.calling.repeat.Goals as goal
 
 pub returns-in-err-body : goal.returns-in-err-body

@@ -3,7 +3,7 @@ use Rattle.std.proofs.lemmas.Result.{err_from_is_err_and}
 use Rattle.path.specs.Points.{point_of}
 use Rattle.path.specs.Building.{rings_of, ring_of, points_of}
 use Rattle.machine.specs.Machine.{on, ends, line_to, operate, with_stack}
-use Rattle.machine.specs.Abstraction.{state, stack_of, after}
+use Rattle.whole_machine.specs.Abstraction.{state, stack_of, after}
 use Rattle.operators.proofs.PathLaws.{beside, line_to_none, line_to_far, line_to_full, line_to_fits}
 use Rattle.operators.proofs.drawing.line_to.Goals as goal
 

@@ -4,7 +4,7 @@ use Rattle.path.specs.Path.{finished}
 use Rattle.path.specs.Points.{point_of}
 use Rattle.path.specs.Building.{rings_of, ring_of}
 use Rattle.machine.specs.Machine.{on, ends, go_to, operate, with_stack}
-use Rattle.machine.specs.Abstraction.{state, stack_of, after}
+use Rattle.whole_machine.specs.Abstraction.{state, stack_of, after}
 use Rattle.operators.proofs.PathLaws.{beside, go_to_far, go_to_full, go_to_fits}
 use Rattle.operators.proofs.drawing.move_to.Goals as goal
 

@@ -1,7 +1,7 @@
 use Rattle.std.proofs.Common.{[], ◌∷◌, ◌++◌, take, ap, ◌∙◌}
 use Rattle.path.specs.Stored.{rings_in}
 use Rattle.machine.specs.Machine.{on, operate, with_paints, with_path}
-use Rattle.machine.specs.Abstraction.{state, with_painted, thing_of}
+use Rattle.whole_machine.specs.Abstraction.{state, with_painted, thing_of}
 use Rattle.operators.proofs.PathLaws.{beside}
 use Rattle.operators.proofs.drawing.paint_path.Goals as goal
 

@@ -2,7 +2,7 @@ use Rattle.std.proofs.Common.{drop, Err, sym, ap, ◌∙◌, arith}
 use Rattle.std.proofs.lemmas.Result.{err_from_is_err_and}
 use Rattle.std.proofs.lemmas.Bool.{cond-true, cond-false, lt-ltb, le-ltb}
 use Rattle.machine.specs.Machine.{on, with_stack, operate}
-use Rattle.machine.specs.Abstraction.{state, after}
+use Rattle.whole_machine.specs.Abstraction.{state, after}
 use Rattle.operators.proofs.graphics.change_grey.Goals as goal
 
 pub returns-in-err-n : goal.returns-in-err-n

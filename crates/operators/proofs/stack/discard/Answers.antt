@@ -1,6 +1,6 @@
 use Rattle.std.proofs.Common.{◌≡◌, sym, ap, ◌∙◌}
 use Rattle.machine.specs.Machine.{on, with_stack, top_one, operate}
-use Rattle.machine.specs.Abstraction.{state}
+use Rattle.whole_machine.specs.Abstraction.{state}
 use Rattle.operators.proofs.stack.discard.Goals as goal
 
 pub returns-in-default : goal.returns-in-default

@@ -1,77 +1,46 @@
-use Rattle.std.proofs.Common.{◌≡◌, ℕ, ◌+◌, ◌-◌, ◌*◌, ◌/◌, ◌<◌, ◌≤◌, min, cond, List, get_or, refl, ap, ◌∙◌, subst, mul-le-mul_right, arith}
-use Rattle.path.specs.Path.{Paint}
-use Rattle.path.specs.Points.{ahead}
-use Rattle.path.specs.Stored.{paths_in}
-use Rattle.path.specs.declared.extent.Extent.{Extent}
-use Rattle.raster.specs.Band.{PaintedWithin}
+use Rattle.std.proofs.Common.{◌≡◌, ℕ, ◌+◌, ◌-◌, ◌*◌, ◌/◌, ◌<◌, ◌≤◌, min, false, List, refl, ap, ◌∙◌, mul-le-mul_right, arith}
+use Rattle.path.specs.Stored.{rings_in, paths_in}
 use Rattle.raster.specs.Coverage.{covers}
-use Rattle.raster.specs.Extent.{clips_top, clips_bottom}
+use Rattle.raster.specs.Levels.{path_top, path_bottom, clips_top, clips_bottom}
 use Rattle.raster.specs.Thing.{thing}
-use Rattle.raster.proofs.ExtentLaws.{le_clips_top, clips_bottom_le}
-use Rattle.raster.proofs.BandLaws.{misses_above, misses_below, misses_over, misses_under, band_within, band_painted}
+use Rattle.raster.proofs.LevelLaws.{both_over, both_under}
+use Rattle.raster.proofs.BandLaws.{band_painted}
 use Rattle.raster.proofs.band.paint_band.Goals as goal
 
--- the cursors are over the words that were lent
-same_thing : (path lent clips others : List ℕ) (grey : ℕ) → path ≡ lent → clips ≡ others → thing path clips grey ≡ thing lent others grey
-same_thing path lent clips others grey e f = ap (λ p. thing p clips grey) e ∙ ap (λ k. thing lent k grey) f
+-- rows whose middle is above or below all levels have nothing to paint
+rows_over : (path clips : List ℕ) (grey first count top start r x : ℕ) → top ≡ clips_top (path_top 16777216 (rings_in path)) (paths_in clips) → start ≡ min ((top + 7) / 16 - first) count → r < start →
+    covers (thing path clips grey) x (first + r) ≡ false
+rows_over path clips grey first count top start r x e f lt = both_over (rings_in path) (paths_in clips) (16 * x + 8) (16 * (first + r) + 8) (omega arith)
 
--- the rows that the clips leave of the extent are painted
-narrow : (was bytes path clips : List ℕ) (grey w y n start end top bottom : ℕ) (e : Extent) →
-    ((r x : ℕ) → start ≤ r → r < end → x < w → get_or bytes (r * w + x) 0 ≡ cond (covers (thing path clips grey) x (y + r)) grey (get_or was (r * w + x) 0)) →
-    ((i : ℕ) → i < start * w → get_or bytes i 0 ≡ get_or was i 0) → ((i : ℕ) → end * w ≤ i → get_or bytes i 0 ≡ get_or was i 0) →
-    top ≡ clips_top e.top (paths_in clips) → bottom ≡ clips_bottom e.bottom (paths_in clips) → start ≡ min ((top + 7) / 16 - y) n → end ≡ min ((bottom + 7) / 16 - y) n →
-    PaintedWithin was bytes w y n (thing path clips grey) e
-narrow was bytes path clips grey w y n start end top bottom e value before rest et eb es ee =
-    let t = thing path clips grey in
-    let lower = le_clips_top (paths_in clips) e.top in
-    let higher = clips_bottom_le (paths_in clips) e.bottom in
-    band_within was bytes w y n start end t e value before rest (omega arith) (λ r x lt. misses_over e t x (y + r) (omega arith)) (λ r x le lt. misses_under e t x (y + r) (omega arith)) (λ r from less. (omega arith, omega arith))
-
--- no row of the band lies within the extent
-pub returns-then-reached : goal.returns-then-reached
-returns-then-reached c =
-    let was = c.args.bytes.now in
-    let t = thing c.args.path.now c.args.clips.now c.args.grey in
-    let e = c.args.extent in
-    let rows = c.rows-within-reached.result in
-    let start = c.rows-within-reached.ensures.start in
-    let end = c.rows-within-reached.ensures.end in
-    let within =
-    band_within was was c.args.width c.args.first c.args.count rows.start rows.end t e (λ r x from less h. let no : ⊥ = omega arith in absurd no) (λ i lt. refl) (λ i le. refl) (omega arith)
-    (λ r x lt. misses_above e t x (c.args.first + r) (omega arith)) (λ r x le lt. misses_below e t x (c.args.first + r) (omega arith)) (λ r from less. let no : ⊥ = omega arith in absurd no) in
-    record { within = within; after = λ own. band_painted was was c.args.width c.args.first c.args.count t e refl c.requires.len.0 within own }
+rows_under : (path clips : List ℕ) (grey first count bottom end r x : ℕ) → bottom ≡ clips_bottom (path_bottom 0 (rings_in path)) (paths_in clips) → end ≡ min ((bottom + 7) / 16 - first) count → end ≤ r → r < count →
+    covers (thing path clips grey) x (first + r) ≡ false
+rows_under path clips grey first count bottom end r x e f le lt = both_under (rings_in path) (paths_in clips) (16 * x + 8) (16 * (first + r) + 8) (omega arith)
 
 pub paint-rows-requires : goal.paint-rows-requires
 paint-rows-requires c =
     let fits = c.requires.len.0 in
-    let end = c.rows-within-rows.ensures.end in
-    let few = mul-le-mul_right {m = c.rows-within-rows.result.end} {n = c.args.count} c.args.width (omega arith) in
+    let few = mul-le-mul_right {m = c.min-end.result} {n = c.args.count} c.args.width (omega arith) in
     record { len = (omega arith, c.requires.len.1); near = (omega arith, omega arith) }
 
-pub returns-else-rows : goal.returns-else-rows
-returns-else-rows c =
-    let was = c.args.bytes.now in
+pub returns-then-start-end : goal.returns-then-start-end
+returns-then-start-end c =
     let path = c.args.path.now in
     let clips = c.args.clips.now in
-    let e = c.args.extent in
-    let rows = c.rows-within-rows.result in
-    let there = c.new-clips.ensures in
-    let within =
-    narrow was was path clips c.args.grey c.args.width c.args.first c.args.count rows.start rows.end c.narrowed.result.top c.narrowed.result.bottom e (λ r x from less h. let no : ⊥ = omega arith in absurd no) (λ i lt. refl) (λ i le. refl)
-    (c.narrowed.ensures.top ∙ ap (λ k. clips_top e.top (paths_in k)) there) (c.narrowed.ensures.bottom ∙ ap (λ k. clips_bottom e.bottom (paths_in k)) there) c.rows-within-rows.ensures.start c.rows-within-rows.ensures.end in
-    record { within = within; after = λ own. band_painted was was c.args.width c.args.first c.args.count (thing path clips c.args.grey) e refl c.requires.len.0 within own }
+    let top = c.narrowed-levels.ensures.top ∙ ap (λ t. clips_top t (paths_in clips)) c.levels-of.ensures.top in
+    let bottom = c.narrowed-levels.ensures.bottom ∙ ap (λ t. clips_bottom t (paths_in clips)) c.levels-of.ensures.bottom in
+    band_painted c.args.bytes.now c.paint-rows.new.bytes c.args.width c.args.first c.args.count c.min-start.result c.min-end.result (thing path clips c.args.grey) c.paint-rows.auto.bytes c.requires.len.0
+    c.paint-rows.ensures.value c.paint-rows.ensures.before c.paint-rows.ensures.rest (omega arith)
+    (λ r x lt. rows_over path clips c.args.grey c.args.first c.args.count c.narrowed-levels.result.top c.min-start.result r x top (omega arith) lt)
+    (λ r x le lt. rows_under path clips c.args.grey c.args.first c.args.count c.narrowed-levels.result.bottom c.min-end.result r x bottom (omega arith) le lt)
 
-pub returns-then-rows : goal.returns-then-rows
-returns-then-rows c =
+pub returns-else-start-end : goal.returns-else-start-end
+returns-else-start-end c =
+    let path = c.args.path.now in
+    let clips = c.args.clips.now in
     let was = c.args.bytes.now in
-    let bytes = c.paint-rows.new.bytes in
-    let path = ahead c.new.result in
-    let clips = ahead c.new-clips.result in
-    let e = c.args.extent in
-    let rows = c.rows-within-rows.result in
-    let P : Paint → Type 0 = λ t. PaintedWithin was bytes c.args.width c.args.first c.args.count t e in
-    let within =
-    subst P (same_thing path c.args.path.now clips c.args.clips.now c.args.grey c.new.ensures c.new-clips.ensures)
-    (narrow was bytes path clips c.args.grey c.args.width c.args.first c.args.count rows.start rows.end c.narrowed.result.top c.narrowed.result.bottom e c.paint-rows.ensures.value c.paint-rows.ensures.before c.paint-rows.ensures.rest
-    c.narrowed.ensures.top c.narrowed.ensures.bottom c.rows-within-rows.ensures.start c.rows-within-rows.ensures.end) in
-    record { within = within; after = λ own. band_painted was bytes c.args.width c.args.first c.args.count (thing c.args.path.now c.args.clips.now c.args.grey) e c.paint-rows.auto.bytes c.requires.len.0 within own }
+    let top = c.narrowed-levels.ensures.top ∙ ap (λ t. clips_top t (paths_in clips)) c.levels-of.ensures.top in
+    let bottom = c.narrowed-levels.ensures.bottom ∙ ap (λ t. clips_bottom t (paths_in clips)) c.levels-of.ensures.bottom in
+    band_painted was was c.args.width c.args.first c.args.count c.min-start.result c.min-end.result (thing path clips c.args.grey) refl c.requires.len.0
+    (λ r x a b h. let no : ⊥ = omega arith in absurd no) (λ i lt. refl) (λ i le. refl) (omega arith)
+    (λ r x lt. rows_over path clips c.args.grey c.args.first c.args.count c.narrowed-levels.result.top c.min-start.result r x top (omega arith) lt)
+    (λ r x le lt. rows_under path clips c.args.grey c.args.first c.args.count c.narrowed-levels.result.bottom c.min-end.result r x bottom (omega arith) le lt)

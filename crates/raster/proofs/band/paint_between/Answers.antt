@@ -1,19 +1,18 @@
 use Rattle.std.proofs.Common.{◌+◌, cond, arith}
-use Rattle.path.specs.Points.{ahead}
 use Rattle.raster.specs.Coverage.{covers}
 use Rattle.raster.specs.Thing.{thing}
 use Rattle.raster.proofs.BandLaws.{row_ends, banded_more}
 use Rattle.raster.proofs.band.paint_between.Goals as goal
 
 pub slice-bounds-paint-row-end : goal.slice-bounds-paint-row-end
-slice-bounds-paint-row-end c = let fits = c.requires.len.0 in omega (arith, row_ends c.loop-r.r c.args.rows.end c.args.width (omega arith))
+slice-bounds-paint-row-end c = let fits = c.requires.len.0 in omega (arith, row_ends c.loop-r.r c.args.end c.args.width (omega arith))
 
 pub loop-r-preserved : goal.loop-r-preserved
 loop-r-preserved c =
     let inv = c.loop-r.invariant in
     let fits = c.requires.len.0 in
-    let t = thing (ahead c.args.path) (ahead c.args.clips) c.args.grey in
+    let t = thing c.args.path.now c.args.clips.now c.args.grey in
     let b =
-    banded_more (λ q x v. cond (covers t x (c.args.first + q)) c.args.grey v) c.args.bytes.now c.loop-r.bytes c.paint-row.new.row c.args.width c.args.rows.start c.loop-r.r (omega arith)
-    (omega (arith, row_ends c.loop-r.r c.args.rows.end c.args.width (omega arith))) (inv.0, inv.1, inv.2) c.paint-row.auto.row c.paint-row.ensures.value in
+    banded_more (λ q x v. cond (covers t x (c.args.first + q)) c.args.grey v) c.args.bytes.now c.loop-r.bytes c.paint-row.new.row c.args.width c.args.start c.loop-r.r (omega arith)
+    (omega (arith, row_ends c.loop-r.r c.args.end c.args.width (omega arith))) (inv.0, inv.1, inv.2) c.paint-row.auto.row c.paint-row.ensures.value in
     (b.0, b.1, b.2, c.paint-row.ensures.bits, c.paint-row.ensures.mask)

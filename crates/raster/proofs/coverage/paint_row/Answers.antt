@@ -3,7 +3,6 @@ use native.Mathlib.Nat.{sub-zero}
 use Rattle.std.proofs.lemmas.List.{length-take-le}
 use Rattle.raster.proofs.CrossLaws.{part_empty, put_empty}
 use Rattle.bits.proofs.RowLaws.{empty_within, bit_unset}
-use Rattle.path.specs.Points.{ahead}
 use Rattle.path.specs.Stored.{rings_in, paths_in}
 use Rattle.raster.specs.Coverage.{in_path, in_all}
 use Rattle.raster.proofs.coverage.paint_row.Goals as goal
@@ -16,8 +15,8 @@ returns-else-covered-high c =
     let fits = c.requires.len.2 in
     record {
       value = λ x lt.
-          let out : in_path (rings_in (ahead c.args.path)) (16 * x + 8) c.args.level ≡ false = sym (c.cover-covered.ensures.value x (omega arith) (omega arith)) ∙ bit_unset ws x (none (x / 64)) in
-          sym (ap (λ b. cond (b && in_all (paths_in (ahead c.args.clips)) (16 * x + 8) c.args.level) c.args.grey (get_or c.args.row.now x 0)) out);
+          let out : in_path (rings_in c.args.path.now) (16 * x + 8) c.args.level ≡ false = sym (c.cover-covered.ensures.value x (omega arith) (omega arith)) ∙ bit_unset ws x (none (x / 64)) in
+          sym (ap (λ b. cond (b && in_all (paths_in c.args.clips.now) (16 * x + 8) c.args.level) c.args.grey (get_or c.args.row.now x 0)) out);
       bits = none;
       mask = c.requires.empty.1;
     }
@@ -41,7 +40,7 @@ returns-then-covered-high c =
     record {
       value = λ x lt.
           c.paint.ensures x lt
-          ∙ ap (λ b. cond b c.args.grey (get_or c.args.row.now x 0)) (c.clip.ensures.value x ∙ ap (λ b. b && in_all (paths_in (ahead c.args.clips)) (16 * x + 8) c.args.level) (c.cover-covered.ensures.value x (omega arith) (omega arith)));
+          ∙ ap (λ b. cond b c.args.grey (get_or c.args.row.now x 0)) (c.clip.ensures.value x ∙ ap (λ b. b && in_all (paths_in c.args.clips.now) (16 * x + 8) c.args.level) (c.cover-covered.ensures.value x (omega arith) (omega arith)));
       bits = c.clear.ensures;
       mask = put_empty 0 (high - 0) c.args.mask.now c.clip.new.mask (omega arith) (c.clip.auto.mask ∙ len) c.requires.empty.1 c.clip.ensures.empty;
     }

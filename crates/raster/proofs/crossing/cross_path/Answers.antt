@@ -1,6 +1,5 @@
 use Rattle.std.proofs.Common.{suc, ◌+◌, ◌*◌, sym, ap, ◌∙◌, arith}
 use Rattle.bits.specs.Row.{bit_at, odd_below}
-use Rattle.path.specs.Points.{ahead}
 use Rattle.path.specs.Stored.{points_in, rings_in}
 use Rattle.raster.specs.Coverage.{differ}
 use Rattle.raster.proofs.CrossLaws.{path_step, path_none}
@@ -10,7 +9,7 @@ pub loop-points-preserved : goal.loop-points-preserved
 loop-points-preserved c =
     let n = c.in-Some.ensures in (
       λ x le lt.
-          path_step (points_in (ahead c.in-Some.points)) (rings_in (ahead c.next-subpath.new.self)) (rings_in (ahead c.loop-points.rest)) (16 * x + 8) c.args.level _ _ n.cases (c.cross-ring-crossings.ensures.value x le (omega arith)) ∙ c.loop-points.invariant.0 x le lt,
+          path_step (points_in c.in-Some.points.now) (rings_in c.in-Some.others.now) (rings_in c.loop-points.rest.now) (16 * x + 8) c.args.level _ _ n.cases (c.cross-ring-crossings.ensures.value x le (omega arith)) ∙ c.loop-points.invariant.0 x le lt,
       c.cross-ring-crossings.ensures.within,
       omega (arith, n.rest),
     )
@@ -18,6 +17,6 @@ loop-points-preserved c =
 pub returns : goal.returns
 returns c =
     record {
-      value = λ x le lt. sym (ap (λ b. differ b (odd_below (bit_at c.loop-points.bits) (suc x))) (path_none (rings_in (ahead c.loop-points.rest)) (16 * x + 8) c.args.level c.in-default.ensures.cases)) ∙ c.loop-points.invariant.0 x le lt;
+      value = λ x le lt. sym (ap (λ b. differ b (odd_below (bit_at c.loop-points.bits) (suc x))) (path_none (rings_in c.loop-points.rest.now) (16 * x + 8) c.args.level c.in-default.ensures.cases)) ∙ c.loop-points.invariant.0 x le lt;
       within = c.loop-points.invariant.1;
     }

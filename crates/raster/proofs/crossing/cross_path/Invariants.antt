@@ -1,6 +1,5 @@
 use Rattle.std.proofs.Common.{◌≡◌, ℕ, suc, ◌+◌, ◌*◌, ◌<◌, ◌≤◌, length}
 use Rattle.bits.specs.Row.{bit_at, odd_below, Within}
-use Rattle.path.specs.Points.{ahead}
 use Rattle.path.specs.Stored.{rings_in}
 use Rattle.raster.specs.Coverage.{differ, in_path}
 use Rattle.raster.proofs.crossing.cross_path.Given as goal
@@ -9,10 +8,10 @@ use Rattle.raster.proofs.crossing.cross_path.Given as goal
 abbrev pub invariant-loop-points : goal.invariant-loop-points
 invariant-loop-points l =
     ((x : ℕ) → l.left ≤ x → x < 64 * length l.initial.bits →
-    differ (in_path (rings_in (ahead l.rest)) (16 * x + 8) l.level) (odd_below (bit_at l.bits) (suc x))
-    ≡ differ (in_path (rings_in (ahead l.initial.rest)) (16 * x + 8) l.level) (odd_below (bit_at l.initial.bits) (suc x)))
+    differ (in_path (rings_in l.rest) (16 * x + 8) l.level) (odd_below (bit_at l.bits) (suc x))
+    ≡ differ (in_path (rings_in l.initial.rest) (16 * x + 8) l.level) (odd_below (bit_at l.initial.bits) (suc x)))
     × Within l.bits l.crossings.low l.crossings.high
-    × (length (ahead l.rest) ≤ length (ahead l.initial.rest))
+    × (length l.rest ≤ length l.initial.rest)
 
 abbrev pub decreases-loop-points : goal.decreases-loop-points
-decreases-loop-points l = length (ahead l.rest)
+decreases-loop-points l = length l.rest

@@ -1,14 +1,14 @@
-use Rattle.std.proofs.Common.{◌≡◌, ℕ, ◌+◌, ◌%◌, ◌<◌, ◌≤◌, Bool, true, false, List, [], ◌∷◌, length, sym, refl, ap, ◌∙◌, inl, inr, arith}
+use native.Mathlib.Omega.{arith}
+use mathlib.Core.Path.{◌≡◌, refl, ap, ◌∙◌}
+use mathlib.Core.List.{List, [], ◌∷◌}
+use Prim.Native.Nat.{ℕ, ◌+◌, ◌%◌, ◌<◌, ◌≤◌}
+use lib.ListN.{length}
 use Rattle.tokens.specs.Stored.{decode}
 use Rattle.path.specs.Path.{Paint}
 use Rattle.machine.specs.Machine.{begin}
-use Rattle.machine.specs.Laws.{state_of}
-use Rattle.machine.specs.Machine.{run}
+use Rattle.machine.specs.Stage.{run_in_stage}
 use Rattle.machine.specs.Abstraction.{Past}
-use Rattle.std.proofs.lemmas.Bool.{cases_Bool}
-use Rattle.run.specs.declared.drive.Ending.{Ending}
-use Rattle.run.specs.Sinks.{is_stopped, past_of, all_painted, all_shown, told}
-use Rattle.run.proofs.Driving.{never}
+use Rattle.run.specs.Sinks.{past_of, all_painted, all_shown, told}
 use Rattle.run.proofs.count.count_pages.Goals as goal
 
 abbrev paint : Paint → ℕ → ℕ
@@ -44,19 +44,7 @@ exact k n t e few small =
     let less = below t.pages 0 (omega arith) in
     omega arith
 
--- a sink that always wants more is never left before the end
-goes_on : (r : Ending) → (is_stopped r ≡ true → true ≡ false) → is_stopped r ≡ false
-goes_on r h = elim (cases_Bool (is_stopped r)) [ inl e ↦ never {b = true} (h e) refl | inr runs ↦ runs ]
-
 pub returns : goal.returns
 returns c =
-    let d = c.run-job-ending.ensures.driven in
-    let runs = goes_on c.run-job-ending.result d.enough in
-    let all = d.whole runs in
-    let first = begin (decode c.args.tokens.now) in
-    record {
-      pages = exact _ d.taken (past_of (run d.taken first)) d.seen d.few (omega arith) ∙ ap (λ n. length (state_of (run n first)).pages) all;
-      words = c.run-job-ending.ensures.words;
-      clips = c.run-job-ending.ensures.clips;
-      ended = d.ended runs;
-    }
+    let t = past_of (run_in_stage c.args.steps (begin (decode c.args.tokens.now))) in
+    record { pages = exact _ c.args.steps t c.run-job-ending.ensures.seen c.run-job-ending.ensures.few (omega arith); words = c.run-job-ending.ensures.words; clips = c.run-job-ending.ensures.clips; ended = c.run-job-ending.ensures.ended }

@@ -1,4 +1,3 @@
-use Rattle.machine.proofs.Invariants.{framed_of}
 use Rattle.std.proofs.Common.{map, reverse, take, ap, ◌∙◌, arith}
 use Rattle.machine.specs.Abstraction.{state, value_of}
 use Rattle.machine.proofs.Tops.{tops_drop}
@@ -10,6 +9,3 @@ returns c =
     let m = c.args.self.now in
     let xs = m.values.now in
     λ p t. same_stack (state m p t) (ap (λ k. map value_of (reverse (take k xs))) c.saturating-sub-self.ensures ∙ tops_drop value_of xs m.height c.args.n (omega arith))
-
-pub invariant-of-self : goal.invariant-of-self
-invariant-of-self c = let m = c.args.self.now in (omega arith, (m.room, framed_of m))

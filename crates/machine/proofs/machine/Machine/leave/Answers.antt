@@ -1,4 +1,3 @@
-use Rattle.machine.proofs.Invariants.{named_of}
 use Rattle.std.proofs.Common.{arith}
 use Rattle.machine.specs.Abstraction.{state, frame_of}
 use Rattle.machine.proofs.Tops.{tops_tail}
@@ -7,6 +6,3 @@ use Rattle.machine.proofs.machine.Machine.leave.Goals as goal
 
 pub returns : goal.returns
 returns c = let m = c.args.self.now in λ p t. same_frames (state m p t) (tops_tail frame_of m.frames.now m.depth (omega arith) (omega arith))
-
-pub invariant-of-self : goal.invariant-of-self
-invariant-of-self c = let m = c.args.self.now in (m.upright, (m.room, (omega arith, (m.nests, named_of m))))

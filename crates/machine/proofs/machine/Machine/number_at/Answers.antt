@@ -1,18 +1,24 @@
-use Rattle.std.proofs.Common.{◌≡◌, ℕ, ◌+◌, List, ◌∷◌, drop, refl, ap, ◌∙◌}
+use Rattle.std.proofs.Common.{◌≡◌, ℕ, ◌+◌, List, ◌∷◌, drop, refl, ap, ◌∙◌, arith}
+use Rattle.std.proofs.lemmas.List.{drop_all}
 use Rattle.machine.specs.Machine.{State, Value, ends, with_one}
 use Rattle.machine.specs.Abstraction.{OneOperand, stack_of, value_of}
 use Rattle.machine.specs.declared.machine.Value as code-value
+use Rattle.machine.proofs.Tops.{length-tops, tops_at}
 use Rattle.machine.proofs.machine.Machine.number_at.Goals as goal
 
-pub returns-in-default : goal.returns-in-default
+pub returns-then-below-self : goal.returns-then-below-self
 unfolding with_one
-returns-in-default c = λ s f. ap (λ vs. with_one s vs f) c.in-default.ensures
+returns-then-below-self c =
+    let m = c.args.self.now in
+    let l = length-tops value_of m.values.now m.height (omega arith) in
+    λ s f. ap (λ vs. with_one s vs f) (drop_all c.args.below (stack_of m) (omega arith))
 
 pub returns-in-Number : goal.returns-in-Number
 unfolding with_one
 returns-in-Number c =
-    let rest = drop (c.args.below + 1) (stack_of c.args.self.now) in
-    λ s f. ap (λ vs. with_one s vs f) c.in-Some.ensures ∙ ap (λ v. with_one s (value_of v ∷ rest) f) c.in-Number.is
+    let m = c.args.self.now in
+    let rest = drop (c.args.below + 1) (stack_of m) in
+    λ s f. ap (λ vs. with_one s vs f) (tops_at value_of m.values.now m.height c.args.below _ (omega arith) (omega arith)) ∙ ap (λ v. with_one s (value_of v ∷ rest) f) c.in-Number.is
 
 -- what is no number is of the wrong kind
 wrong_kind : (v : code-value.Value) (s : State) (vs : List Value) (f : OneOperand) → ((n : ℕ) → v ≡ code-value.TheVariants.Number n → ⊥) → with_one s (value_of v ∷ vs) f ≡ ends 2 s
@@ -21,7 +27,8 @@ wrong_kind (code-value.TheVariants.Number n) s vs f other = absurd (other n refl
 wrong_kind (code-value.TheVariants.Body b) s vs f other = refl
 wrong_kind (code-value.TheVariants.Label k) s vs f other = refl
 
-pub returns-in-default-v : goal.returns-in-default-v
-returns-in-default-v c =
-    let rest = drop (c.args.below + 1) (stack_of c.args.self.now) in
-    λ s f. ap (λ vs. with_one s vs f) c.in-Some.ensures ∙ wrong_kind _ s rest f c.in-default-v.not-Number
+pub returns-in-default : goal.returns-in-default
+returns-in-default c =
+    let m = c.args.self.now in
+    let rest = drop (c.args.below + 1) (stack_of m) in
+    λ s f. ap (λ vs. with_one s vs f) (tops_at value_of m.values.now m.height c.args.below _ (omega arith) (omega arith)) ∙ wrong_kind _ s rest f c.in-default.not-Number

@@ -1,5 +1,25 @@
-use Rattle.machine.proofs.Invariants.{framed_of}
+use Rattle.std.proofs.Common.{Err, sym, ap, ◌∙◌, arith}
+use Rattle.std.proofs.lemmas.Result.{err_from_is_err_and}
+use Rattle.std.proofs.lemmas.Bool.{cond-true, cond-false, lt-ltb, le-ltb}
+use Rattle.machine.specs.Machine.{on, operate}
+use Rattle.machine.specs.Abstraction.{state, after}
 use Rattle.machine.proofs.machine.Machine.set_grey.Goals as goal
 
-pub invariant-of-self : goal.invariant-of-self
-invariant-of-self c = let m = c.args.self.now in (tt, (m.upright, (m.room, framed_of m)))
+pub returns-in-err-n : goal.returns-in-err-n
+unfolding operate
+returns-in-err-n c =
+    let m = c.args.self.now in
+    let q = err_from_is_err_and c.from-residual.result c.from-residual.ensures.1 in
+    λ p t. ap (λ r. after r m p t) (q.1 ∙ ap Err q.2) ∙ sym (c.in-err-n.ensures (state m p t) _)
+
+pub returns-then-n-gt-WHITE : goal.returns-then-n-gt-WHITE
+unfolding operate
+returns-then-n-gt-WHITE c =
+    let m = c.args.self.now in
+    λ p t. sym (c.in-ok-n.ensures (state m p t) _ ∙ cond-false _ _ _ (le-ltb c.in-ok-n.n 256 (omega arith)))
+
+pub returns : goal.returns
+unfolding operate
+returns c =
+    let m = c.args.self.now in
+    λ p t. ap on (c.drop-operands.ensures p t) ∙ sym (c.in-ok-n.ensures (state m p t) _ ∙ cond-true _ _ _ (lt-ltb c.in-ok-n.n 256 (omega arith)))

@@ -1,0 +1,31 @@
+-- A step of the written machine, case by case, as the code takes it.
+use Rattle.std.proofs.Common.{◌≡◌, ℕ, suc, ◌-◌, ◌<◌, List, [], ◌∷◌, sym, ap, ◌∙◌, arith}
+use Rattle.tokens.specs.Token.{Token, Tokens, none, more}
+use Rattle.machine.specs.Machine.{State, Frame, Went, on, ends, with_frames, advance}
+use Rattle.machine.specs.Stage.{run_token_in_stage, advance_in_stage, step_by_frame, step_in_stage}
+use Rattle.machine.specs.Abstraction.{topped, tail, with_top, without_top}
+
+pub finished_there : (s : State) → s.frames ≡ [] → ends 0 s ≡ step_in_stage s
+unfolding step_by_frame
+finished_there s e = sym (ap (step_by_frame s) e)
+
+-- the innermost frame is at its end
+at_its_end : (s : State) (f : Frame) (fs : List Frame) (n : ℕ) → s.frames ≡ f ∷ fs → none ≡ f.rest → f.again ≡ n → advance s none n f.whole fs ≡ step_in_stage s
+unfolding step_by_frame advance_in_stage
+at_its_end s f fs n e over is = ap (λ k. advance s none k f.whole fs) (sym is) ∙ ap (advance_in_stage s f fs) over ∙ sym (ap (step_by_frame s) e)
+
+pub once_more : (s : State) (f : Frame) (fs : List Frame) → s.frames ≡ f ∷ fs → none ≡ f.rest → 0 < f.again → on (with_top s (record { rest = f.whole; again = f.again - 1; whole = f.whole })) ≡ step_in_stage s
+unfolding advance
+once_more s f fs e over some =
+    let k : f.again ≡ suc (f.again - 1) = omega arith in
+    ap {B = Went} (λ x. on (with_frames s (topped x (record { rest = f.whole; again = f.again - 1; whole = f.whole })))) e ∙ at_its_end s f fs (suc (f.again - 1)) e over k
+
+pub leaves : (s : State) (f : Frame) (fs : List Frame) → s.frames ≡ f ∷ fs → none ≡ f.rest → f.again ≡ 0 → on (without_top s) ≡ step_in_stage s
+unfolding advance
+leaves s f fs e over is = ap {B = Went} (λ x. on (with_frames s (tail x))) e ∙ at_its_end s f fs 0 e over is
+
+pub takes_one : (s : State) (f : Frame) (fs : List Frame) (t : Token) (ts : Tokens) → s.frames ≡ f ∷ fs → more t ts ≡ f.rest →
+    run_token_in_stage (with_top s (record { rest = ts; again = f.again; whole = f.whole })) t ≡ step_in_stage s
+unfolding step_by_frame advance_in_stage
+takes_one s f fs t ts e is =
+    ap (λ x. run_token_in_stage (with_frames s (topped x (record { rest = ts; again = f.again; whole = f.whole }))) t) e ∙ ap (advance_in_stage s f fs) is ∙ sym (ap (step_by_frame s) e)

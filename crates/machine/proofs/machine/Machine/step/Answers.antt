@@ -1,0 +1,66 @@
+use Rattle.std.proofs.Common.{sym, ap, ◌∙◌, arith}
+use Rattle.tokens.specs.Token.{number, does, name, quoted, body, more}
+use Rattle.tokens.specs.Stored.{decode, operator_of, token_of}
+use Rattle.machine.specs.Machine.{on, ends, amount, code, label, push, found, call, run_token}
+use Rattle.machine.specs.Stage.{operate_in_stage, run_token_in_stage}
+use Rattle.machine.specs.Abstraction.{state, frame_of}
+use Rattle.machine.proofs.Stepping.{finished_there, once_more, leaves, takes_one}
+use Rattle.machine.proofs.machine.Machine.step.Goals as goal
+
+pub returns-in-default : goal.returns-in-default
+returns-in-default c = λ t. finished_there (state c.args.self.now c.args.path.now t) c.in-default.ensures
+
+pub returns-then-f-gt0 : goal.returns-then-f-gt0
+returns-then-f-gt0 c =
+    let p = c.args.path.now in
+    λ t. ap on (c.replace-top.ensures p t) ∙ once_more (state c.args.self.now p t) (frame_of c.in-Some.f) _ c.in-Some.ensures c.in-None.ensures.value c.if-f-gt0.true
+
+pub returns-else-f-gt0 : goal.returns-else-f-gt0
+returns-else-f-gt0 c =
+    let p = c.args.path.now in
+    λ t. ap on (c.leave.ensures p t) ∙ leaves (state c.args.self.now p t) (frame_of c.in-Some.f) _ c.in-Some.ensures c.in-None.ensures.value (omega arith)
+
+pub returns-in-Number : goal.returns-in-Number
+unfolding run_token_in_stage run_token
+returns-in-Number c =
+    let p = c.args.path.now in
+    let ts = decode c.in-Some-next-token.rest.now in
+    λ t.
+    c.push-value.ensures p t ∙ ap (λ s. push s s.stack (amount c.in-Number.n)) (c.replace-top-in-Some-next-token.ensures p t)
+    ∙ takes_one (state c.args.self.now p t) (frame_of c.in-Some.f) _ (number c.in-Number.n) ts c.in-Some.ensures (ap (λ x. more (token_of x) ts) (sym c.in-Number.is) ∙ c.in-Some-next-token.ensures.value)
+
+pub returns-in-Does : goal.returns-in-Does
+unfolding run_token_in_stage
+returns-in-Does c =
+    let p = c.args.path.now in
+    let ts = decode c.in-Some-next-token.rest.now in
+    λ t.
+    c.does.ensures t ∙ ap (λ s. operate_in_stage s (operator_of c.in-Does.op)) (c.replace-top-in-Some-next-token.ensures p t)
+    ∙ takes_one (state c.args.self.now p t) (frame_of c.in-Some.f) _ (does (operator_of c.in-Does.op)) ts c.in-Some.ensures (ap (λ x. more (token_of x) ts) (sym c.in-Does.is) ∙ c.in-Some-next-token.ensures.value)
+
+pub returns-in-Name : goal.returns-in-Name
+unfolding run_token_in_stage run_token found call
+returns-in-Name c =
+    let p = c.args.path.now in
+    let ts = decode c.in-Some-next-token.rest.now in
+    λ t.
+    ap (ends 4) (c.replace-top-in-Some-next-token.ensures p t)
+    ∙ takes_one (state c.args.self.now p t) (frame_of c.in-Some.f) _ (name c.in-Name.field-0) ts c.in-Some.ensures (ap (λ x. more (token_of x) ts) (sym c.in-Name.is) ∙ c.in-Some-next-token.ensures.value)
+
+pub returns-in-Quoted : goal.returns-in-Quoted
+unfolding run_token_in_stage run_token
+returns-in-Quoted c =
+    let p = c.args.path.now in
+    let ts = decode c.in-Some-next-token.rest.now in
+    λ t.
+    c.push-value-in-Quoted.ensures p t ∙ ap (λ s. push s s.stack (label c.in-Quoted.k)) (c.replace-top-in-Some-next-token.ensures p t)
+    ∙ takes_one (state c.args.self.now p t) (frame_of c.in-Some.f) _ (quoted c.in-Quoted.k) ts c.in-Some.ensures (ap (λ x. more (token_of x) ts) (sym c.in-Quoted.is) ∙ c.in-Some-next-token.ensures.value)
+
+pub returns-in-Body : goal.returns-in-Body
+unfolding run_token_in_stage run_token
+returns-in-Body c =
+    let p = c.args.path.now in
+    let ts = decode c.in-Some-next-token.rest.now in
+    λ t.
+    c.push-value-in-Body.ensures p t ∙ ap (λ s. push s s.stack (code (decode c.in-Body.b.now))) (c.replace-top-in-Some-next-token.ensures p t)
+    ∙ takes_one (state c.args.self.now p t) (frame_of c.in-Some.f) _ (body (decode c.in-Body.b.now)) ts c.in-Some.ensures (ap (λ x. more (token_of x) ts) (sym c.in-Body.is) ∙ c.in-Some-next-token.ensures.value)

@@ -1,0 +1,8 @@
+mod Beginning
+mod ClipLaws
+mod Invariants
+mod KeepLaws
+mod NameLaws
+pub mod Showing
+mod Standing
+mod Tops

@@ -1,0 +1,3 @@
+pub mod Clips
+pub mod Names
+pub mod Abstraction

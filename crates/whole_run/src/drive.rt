@@ -1,0 +1,87 @@
+ghost use Rattle.std.specs.Prelude.{◌≡◌, Bool, List};
+ghost use Rattle.std.specs.Borrow.{GName};
+ghost use Rattle.path.specs.Path.{Paint};
+ghost use Rattle.path.specs.Extent.{ExtentOf};
+ghost use Rattle.path.specs.Stored.{rings_in};
+ghost use Rattle.whole_machine.specs.Abstraction.{no_past, state, paint_in};
+ghost use Rattle.whole_run.specs.Sinks.{Driven};
+
+use whole_machine::event::{Event, Fault};
+use whole_machine::state::Machine;
+use operators::stepping::step;
+use path::builder::Path;
+use path::extent::Extent;
+
+// how a run ends: by itself, by a fault; or its sink has seen enough
+#[derive(Clone, Copy)]
+pub enum Ending {
+    Finished,
+    Failed(Fault),
+    Stopped,
+}
+
+// What is done with what a job paints and shows; after a page a sink says whether it wants more. `lent` names the
+// memory that a sink holds: the same at each event.
+pub trait Sink: Sized {
+    ghost View: { Type 0 };
+
+    ghost view: { Self → View };
+
+    ghost paint: { Paint → View → View };
+
+    ghost page: { View → View };
+
+    ghost more: { View → Bool };
+
+    ghost lent: { Self → List GName };
+
+    fn painted(&mut self, path: &[u64], extent: Extent, clips: &[u64], grey: u8)
+        ensures seen { ExtentOf extent (rings_in path.now) → view self.new ≡ paint (paint_in path.now clips.now grey) (view self.old) }
+        ensures lent { lent self.new ≡ lent self.old };
+
+    fn shown(&mut self) -> bool
+        ensures value { result ≡ more (view self.new) }
+        ensures seen { view self.new ≡ page (view self.old) }
+        ensures lent { lent self.new ≡ lent self.old };
+}
+
+// Runs a job to its end, until its steps are used up, or until its sink wants no more, and tells the sink what it
+// paints and shows.
+pub fn drive<'s, 'a, E: Sink>(
+    m: &mut Machine<'s, 'a>,
+    path: &mut Path<'_>,
+    sink: &mut E,
+    steps: u32,
+) -> Ending
+    ensures driven { Driven E.Sink.paint E.Sink.page E.Sink.more result steps (state m.old path.old no_past) (E.Sink.view sink.old) (E.Sink.view sink.new) }
+    ensures lent { E.Sink.lent sink.new ≡ E.Sink.lent sink.old }
+{
+    for i in 0..steps {
+        let event = match step(m, path) {
+            Ok(event) => event,
+            Err(fault) => return Ending::Failed(fault),
+        };
+        match event {
+            Event::On => {}
+            Event::Painted(n) => {
+                sink.painted(
+                    path.front(n),
+                    path.front_extent(n),
+                    m.clip_words(),
+                    m.grey(),
+                )
+            }
+            Event::Shown => {
+                if !sink.shown() {
+                    return Ending::Stopped;
+                }
+            }
+            Event::Finished => return Ending::Finished,
+        }
+    }
+    if m.is_finished() {
+        Ending::Finished
+    } else {
+        Ending::Failed(Fault::StepsUsedUp)
+    }
+}
