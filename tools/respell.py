@@ -6,7 +6,8 @@ usage: python3 tools/respell.py [--list]     at the top of the repository, once,
 A name that begins with a capital is put in camel case (All-in-range: AllInRange), any other in snake case
 (by-head: by_head). In proofs/ a dash stays after the name of a library function that a lemma is about
 (length-row). Names that the checker makes (goals, invariants, measures) and names of src/ are left alone, and so
-are strings, the words of the job language, inputs and outputs. It stops where two names would become one.
+are strings, the words of the job language, inputs and outputs. A name that would become one of the library's, that
+proofs here import, gets _lem at its end. It stops where two names of this repository would become one.
 --list prints the names and changes nothing.
 """
 
@@ -48,9 +49,20 @@ def spelled(name, is_lemma):
     return name.replace("-", "_")
 
 
+def imported():
+    """The names that proofs take from the library."""
+    found = set()
+    for path in files("crates", ".antt"):
+        for m in re.finditer(r"^use ([\w.]+)\.\{([^}]*)\}", read(path), re.M):
+            if m[1].startswith("Rattle.std.") or not m[1].startswith("Rattle."):
+                found.update(re.split(r", *", m[2]))
+    return found
+
+
 def renamed():
     """Old name to new name, of all that specs/ and proofs/ define; and the names there that stay."""
     table, kept, stay = {}, set(), set()
+    library = imported()
     for path in files("crates", ".antt"):
         is_lemma = "/proofs/" in path
         for m in DEFINED.finditer(REMARK.sub("", read(path))):
@@ -59,6 +71,8 @@ def renamed():
                 continue
             for name in m["name"].split():
                 new = spelled(name, is_lemma)
+                if new != name and new in library:
+                    new += "_lem"
                 if new == name:
                     stay.add(name)
                 elif not is_lemma or name not in table:

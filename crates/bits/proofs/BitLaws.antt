@@ -85,13 +85,13 @@ odd_and a b =
           ]
     ]
 
-pub bit_xor : (a b k : ℕ) → bit (bit_xor a b) k ≡ xor (bit a k) (bit b k)
+pub bit_xor_lem : (a b k : ℕ) → bit (bit_xor a b) k ≡ xor (bit a k) (bit b k)
 unfolding bit
-bit_xor a b k = ap (λ n. eqb (n % 2) 1) (xor_shr a b k) ∙ odd_xor (a / 2 ^ k) (b / 2 ^ k)
+bit_xor_lem a b k = ap (λ n. eqb (n % 2) 1) (xor_shr a b k) ∙ odd_xor (a / 2 ^ k) (b / 2 ^ k)
 
-pub bit_and : (a b k : ℕ) → bit (bit_and a b) k ≡ (bit a k && bit b k)
+pub bit_and_lem : (a b k : ℕ) → bit (bit_and a b) k ≡ (bit a k && bit b k)
 unfolding bit
-bit_and a b k = ap (λ n. eqb (n % 2) 1) (and_shr a b k) ∙ odd_and (a / 2 ^ k) (b / 2 ^ k)
+bit_and_lem a b k = ap (λ n. eqb (n % 2) 1) (and_shr a b k) ∙ odd_and (a / 2 ^ k) (b / 2 ^ k)
 
 pub bit_zero : (k : ℕ) → bit 0 k ≡ false
 unfolding bit

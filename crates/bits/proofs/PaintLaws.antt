@@ -6,7 +6,7 @@ use borrow.Rule.Slice.PartMut.{put_mid}
 use lib.Bits.{bit_xor}
 use Rattle.std.proofs.lemmas.Bool.{cases_lt, false≢true}
 use Rattle.bits.specs.Row.{bit, bit_at}
-use Rattle.bits.proofs.BitLaws.{bit_shr, bit_xor, bit_ones}
+use Rattle.bits.proofs.BitLaws.{bit_shr, bit_xor_lem, bit_ones}
 use Rattle.bits.proofs.PartLaws.{put_before, put_in, put_past, put_length}
 
 -- dots before `at` are grey where they are covered, those from there on are as they were
@@ -79,7 +79,7 @@ run_some set rest skip run e at ends =
 -- a bit that is clear in the complement is set
 pub other_clear : (word k : ℕ) → k < 64 → bit (bit_xor word 18446744073709551615) k ≡ false → bit word k ≡ true
 unfolding xor
-other_clear word k lt h = flip (bit word k) (sym (bit_xor word 18446744073709551615 k ∙ ap (xor (bit word k)) (bit_ones k lt)) ∙ h)
+other_clear word k lt h = flip (bit word k) (sym (bit_xor_lem word 18446744073709551615 k ∙ ap (xor (bit word k)) (bit_ones k lt)) ∙ h)
   where
     flip : (b : Bool) → xor b true ≡ false → b ≡ true
     flip true e = refl
@@ -87,7 +87,7 @@ other_clear word k lt h = flip (bit word k) (sym (bit_xor word 18446744073709551
 
 pub other_set : (word k : ℕ) → k < 64 → bit (bit_xor word 18446744073709551615) k ≡ true → bit word k ≡ false
 unfolding xor
-other_set word k lt h = flip (bit word k) (sym (bit_xor word 18446744073709551615 k ∙ ap (xor (bit word k)) (bit_ones k lt)) ∙ h)
+other_set word k lt h = flip (bit word k) (sym (bit_xor_lem word 18446744073709551615 k ∙ ap (xor (bit word k)) (bit_ones k lt)) ∙ h)
   where
     flip : (b : Bool) → xor b true ≡ true → b ≡ false
     flip true e = sym e

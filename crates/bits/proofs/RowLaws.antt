@@ -9,7 +9,7 @@ use borrow.Rule.Slice.PartMut.{put_mid}
 use Rattle.std.proofs.lemmas.List.{get_or_past}
 use Rattle.bits.proofs.PartLaws.{put_before, put_in, put_length}
 use Rattle.bits.specs.Row.{bit, bit_at, odd_below, Within}
-use Rattle.bits.proofs.BitLaws.{bit_xor, bit_and, bit_zero, bit_power, bit_one, bit_shl_above, bit_shl_below, bit_ones, false_xor, xor_false, xor_comm, xor_assoc, xor_self, xor_middle}
+use Rattle.bits.proofs.BitLaws.{bit_xor_lem, bit_and_lem, bit_zero, bit_power, bit_one, bit_shl_above, bit_shl_below, bit_ones, false_xor, xor_false, xor_comm, xor_assoc, xor_self, xor_middle}
 
 -- parities
 pub odd_same : (f g : ℕ → Bool) (n : ℕ) → ((k : ℕ) → k < n → f k ≡ g k) → odd_below f n ≡ odd_below g n
@@ -67,7 +67,7 @@ bit_toggled ws x k lt =
       | inl e ↦
           ap (λ n. bit (get_or (set ws (x / 64) w) n 0) (k % 64)) e
           ∙ ap (λ v. bit v (k % 64)) (get_or-set_same ws (x / 64) w 0 lt)
-          ∙ bit_xor (get_or ws (x / 64) 0) (2 ^ (x % 64)) (k % 64)
+          ∙ bit_xor_lem (get_or ws (x / 64) 0) (2 ^ (x % 64)) (k % 64)
           ∙ xor_comm (bit (get_or ws (x / 64) 0) (k % 64)) (bit (2 ^ (x % 64)) (k % 64))
           ∙ ap (λ b. xor b (bit (get_or ws (x / 64) 0) (k % 64))) (bit_power (x % 64) (k % 64) ∙ same_word k x e)
           ∙ ap (λ n. xor (eqb k x) (bit (get_or ws n 0) (k % 64))) (sym e)
@@ -100,7 +100,7 @@ spans_one word k lt =
 pub spans_twice : (word j r : ℕ) → Spans word j r → Spans word (2 * j) (bit_xor r ((r * 2 ^ j) % 2 ^ 64))
 spans_twice word j r h k lt =
     let P = odd_below (bit word) in
-    bit_xor r ((r * 2 ^ j) % 2 ^ 64) k
+    bit_xor_lem r ((r * 2 ^ j) % 2 ^ 64) k
     ∙ elim (cases_lt k j) [
       | inl low ↦
           let a : suc k - j ≡ suc k - 2 * j = omega arith in
@@ -155,9 +155,9 @@ word_parity ws i n le =
 -- a carry is as one more bit at the beginning
 carried : (w carry n : ℕ) → carry < 2 → 0 < n → odd_below (bit (bit_xor w carry)) n ≡ xor (not (eqb carry 0)) (odd_below (bit w) n)
 carried w zero n lt some =
-    odd_same (bit (bit_xor w 0)) (bit w) n (λ k h. bit_xor w 0 k ∙ ap (xor (bit w k)) (bit_zero k) ∙ xor_false (bit w k)) ∙ sym (false_xor (odd_below (bit w) n))
+    odd_same (bit (bit_xor w 0)) (bit w) n (λ k h. bit_xor_lem w 0 k ∙ ap (xor (bit w k)) (bit_zero k) ∙ xor_false (bit w k)) ∙ sym (false_xor (odd_below (bit w) n))
 carried w (suc zero) n lt some =
-    odd_toggled (bit w) (bit (bit_xor w 1)) 0 n (λ k. bit_xor w 1 k ∙ xor_comm (bit w k) (bit 1 k) ∙ ap (λ b. xor b (bit w k)) (bit_one k))
+    odd_toggled (bit w) (bit (bit_xor w 1)) 0 n (λ k. bit_xor_lem w 1 k ∙ xor_comm (bit w k) (bit 1 k) ∙ ap (λ b. xor b (bit w k)) (bit_one k))
     ∙ ap (λ b. xor b (odd_below (bit w) n)) (lt-ltb 0 n some)
 carried w (suc (suc c)) n lt some = let no : ⊥ = omega arith in absurd no
 
@@ -254,7 +254,7 @@ common_more was others ws low high i lt above under s =
                 let e : x / 64 ≡ i = omega arith in
                 ap (λ n. bit (get_or (set ws i r) n 0) (x % 64)) e
                 ∙ ap (λ w. bit w (x % 64)) (get_or-set_same ws i r 0 lt)
-                ∙ bit_and (get_or ws i 0) (get_or others i 0) (x % 64)
+                ∙ bit_and_lem (get_or ws i 0) (get_or others i 0) (x % 64)
                 ∙ ap (λ w. bit w (x % 64) && bit (get_or others i 0) (x % 64)) (s.1 i (omega arith))
                 ∙ ap (λ n. bit (get_or was n 0) (x % 64) && bit (get_or others n 0) (x % 64)) (sym e)
           ],

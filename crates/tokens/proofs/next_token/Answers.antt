@@ -18,8 +18,8 @@ plain_is f ws kind h is e = ap f (after ws h) ∙ e ∙ head_long ws kind h is
 pub returns-then-rest-lt2 : goal.returns-then-rest-lt2
 returns-then-rest-lt2 c = next_over _ (sym (head_short c.args.rest.now c.if-rest-lt2.true))
 
-pub returns-in-default-operator-from : goal.returns-in-default-operator-from
-returns-in-default-operator-from c = let ws = c.args.rest.now in next_over ws (ap (λ o. operator_head o (drop 2 ws)) c.in-default-operator-from.ensures ∙ head_long ws 1 c.if-rest-lt2.false c.in-1.is)
+pub returns-in_default-operator_from : goal.returns-in_default-operator_from
+returns-in_default-operator_from c = let ws = c.args.rest.now in next_over ws (ap (λ o. operator_head o (drop 2 ws)) c.in_default-operator_from.ensures ∙ head_long ws 1 c.if-rest-lt2.false c.in-1.is)
 
 pub returns-in-0 : goal.returns-in-0
 returns-in-0 c = let ws = c.args.rest.now in next_is _ _ ws (plain_is (plain (number (get_or ws 1 0 % 2147483648))) ws 0 c.if-rest-lt2.false c.in-0.is refl)
@@ -42,10 +42,10 @@ nested_is bs rs ws h is b r =
 pub returns-in-4 : goal.returns-in-4
 returns-in-4 c =
     let ws = c.args.rest.now in
-    next_is _ _ ws (nested_is _ _ ws c.if-rest-lt2.false c.in-4.is c.body-of.ensures.body c.body-of.ensures.rest)
+    next_is _ _ ws (nested_is _ _ ws c.if-rest-lt2.false c.in-4.is c.body_of.ensures.body c.body_of.ensures.rest)
 
-pub returns-in-default : goal.returns-in-default
-returns-in-default c =
+pub returns-in_default : goal.returns-in_default
+returns-in_default c =
     let ws = c.args.rest.now in
     let k = get_or ws 0 0 in
     let a : eqb k 0 ≡ false = ne_eqb _ _ (λ h. omega arith) in

@@ -6,18 +6,18 @@ use Rattle.bits.proofs.PartLaws.{put_length}
 use Rattle.bits.proofs.PaintLaws.{Painted, painted_more, painted_all, rest_few, rest_bit, rest_more, run_bit, run_some}
 use Rattle.bits.proofs.painting.paint_word.Goals as goal
 
-pub overflow-add-start : goal.overflow-add-start
-overflow-add-start c = let f = rest_few c.args.word c.loop-rest.from c.loop-rest.rest c.loop-rest.invariant.0 (omega arith) (omega arith) in omega arith
+pub overflow_add-start : goal.overflow_add-start
+overflow_add-start c = let f = rest_few c.args.word c.loop-rest.from c.loop-rest.rest c.loop-rest.invariant.0 (omega arith) (omega arith) in omega arith
 
-pub overflow-add-end : goal.overflow-add-end
-overflow-add-end c = let f = rest_few c.args.word c.loop-rest.from c.loop-rest.rest c.loop-rest.invariant.0 (omega arith) (omega arith) in omega arith
+pub overflow_add-end : goal.overflow_add-end
+overflow_add-end c = let f = rest_few c.args.word c.loop-rest.from c.loop-rest.rest c.loop-rest.invariant.0 (omega arith) (omega arith) in omega arith
 
 pub loop-rest-smaller : goal.loop-rest-smaller
 loop-rest-smaller c =
     let rest = c.loop-rest.rest in
-    let skip = c.clear-bits-skip.result in
-    let run = c.set-bits-run.result in
-    let some : 0 < run = run_some (rest / 2 ^ skip) rest skip run refl c.clear-bits-skip.ensures.at c.set-bits-run.ensures.at in
+    let skip = c.clear_bits-skip.result in
+    let run = c.set_bits-run.result in
+    let some : 0 < run = run_some (rest / 2 ^ skip) rest skip run refl c.clear_bits-skip.ensures.at c.set_bits-run.ensures.at in
     let more : 0 < skip + run = omega arith in
     let whole : rest / 2 ^ skip / 2 ^ run ≡ rest / 2 ^ (skip + run) = shr-shr rest skip run in
     let less : rest / 2 ^ (skip + run) < rest = shr_less rest (skip + run) (omega arith) more in
@@ -39,9 +39,9 @@ pub loop-rest-preserved : goal.loop-rest-preserved
 loop-rest-preserved c =
     let inv = c.loop-rest.invariant in
     let p =
-    run_painted c.args.word c.args.grey c.loop-rest.from c.loop-rest.rest c.clear-bits-skip.result c.set-bits-run.result c.min.result c.min-in-loop-rest.result c.args.dots.now c.loop-rest.dots c.fill-dots.new.dots
-    inv.0 (inv.1, inv.2) c.clear-bits-skip.ensures.below c.set-bits-run.ensures.below (omega arith) (omega arith) c.fill-dots.auto.dots c.fill-dots.ensures in
-    (rest_more c.args.word c.loop-rest.from c.loop-rest.rest c.clear-bits-skip.result c.set-bits-run.result inv.0, p.0, p.1)
+    run_painted c.args.word c.args.grey c.loop-rest.from c.loop-rest.rest c.clear_bits-skip.result c.set_bits-run.result c.min.result c.min-in-loop-rest.result c.args.dots.now c.loop-rest.dots c.fill_dots.new.dots
+    inv.0 (inv.1, inv.2) c.clear_bits-skip.ensures.below c.set_bits-run.ensures.below (omega arith) (omega arith) c.fill_dots.auto.dots c.fill_dots.ensures in
+    (rest_more c.args.word c.loop-rest.from c.loop-rest.rest c.clear_bits-skip.result c.set_bits-run.result inv.0, p.0, p.1)
 
 pub returns-after-loop-rest : goal.returns-after-loop-rest
 returns-after-loop-rest c x lt =
@@ -54,8 +54,8 @@ returns-after-loop-rest c x lt =
 pub returns-then-run-ge64 : goal.returns-then-run-ge64
 returns-then-run-ge64 c x lt =
     let inv = c.loop-rest.invariant in
-    let all = put_length c.min.result (c.min-in-loop-rest.result - c.min.result) c.loop-rest.dots c.fill-dots.new.dots (omega arith) (c.fill-dots.auto.dots ∙ simp (length-take, length-drop) (omega arith)) in
+    let all = put_length c.min.result (c.min-in-loop-rest.result - c.min.result) c.loop-rest.dots c.fill_dots.new.dots (omega arith) (c.fill_dots.auto.dots ∙ simp (length-take, length-drop) (omega arith)) in
     let p =
-    run_painted c.args.word c.args.grey c.loop-rest.from c.loop-rest.rest c.clear-bits-skip.result c.set-bits-run.result c.min.result c.min-in-loop-rest.result c.args.dots.now c.loop-rest.dots c.fill-dots.new.dots
-    inv.0 (inv.1, inv.2) c.clear-bits-skip.ensures.below c.set-bits-run.ensures.below (omega arith) (omega arith) c.fill-dots.auto.dots c.fill-dots.ensures in
+    run_painted c.args.word c.args.grey c.loop-rest.from c.loop-rest.rest c.clear_bits-skip.result c.set_bits-run.result c.min.result c.min-in-loop-rest.result c.args.dots.now c.loop-rest.dots c.fill_dots.new.dots
+    inv.0 (inv.1, inv.2) c.clear_bits-skip.ensures.below c.set_bits-run.ensures.below (omega arith) (omega arith) c.fill_dots.auto.dots c.fill_dots.ensures in
     p.0 x (omega arith) (omega arith)

@@ -9,4 +9,4 @@ by_rings ws None h = rings_over ws h
 by_rings ws (Some p) h = rings_split ws p.0.now p.1.now h
 
 pub returns : goal.returns
-returns c = record { cases = by_rings _ _ c.first-piece.ensures.cases; rest = c.first-piece.ensures.rest }
+returns c = record { cases = by_rings _ _ c.first_piece.ensures.cases; rest = c.first_piece.ensures.rest }
