@@ -17,25 +17,19 @@ lower m p = min m p.y
 abbrev higher : ℕ → Point → ℕ
 higher m p = max m p.y
 
--- how the path lies in its words, as one fact in the order of its ghost fields, and then Z
-abbrev LaidAnd : Type 0 → List ℕ → ℕ → ℕ → ℕ → ℕ → Type 0
-LaidAnd Z ws start last used total =
+-- how the path lies in its words, as one fact in the order of its ghost fields
+abbrev pub Laid : List ℕ → ℕ → ℕ → ℕ → ℕ → Type 0
+Laid ws start last used total =
     (3072 ≤ length ws)
     × ((total ≤ 1024) × ((used ≤ 3 * total) × ((start ≤ used) × ((last ≡ 0 → used ≡ 0) × ((0 < last → used ≡ start + 1 + 2 * last)
-    × ((0 < last → get_or ws start 0 ≡ last) × ((points (rings_in (take start ws)) + last ≡ total) × ((complete (take start ws) ≡ true) × Z))))))))
-
-abbrev pub Laid : List ℕ → ℕ → ℕ → ℕ → ℕ → Type 0
-Laid ws start last used total = LaidAnd (Unit {0}) ws start last used total
+    × ((0 < last → get_or ws start 0 ≡ last) × ((points (rings_in (take start ws)) + last ≡ total) × ((complete (take start ws) ≡ true) × Unit {0}))))))))
 
 pub laid_of : (p : Path) → Laid p.words.now p.start p.last p.used p.total
 laid_of p = (p.room, (p.few, (p.short, (p.begins, (p.none, (p.ends, (p.counts, (p.adds, (p.whole, tt)))))))))
 
--- between which levels a path of so many words lies, and then Z
-abbrev SpansAnd : Type 0 → List ℕ → ℕ → ℕ → ℕ → Type 0
-SpansAnd Z ws n top bottom = (top ≡ path_top 16777216 (rings_in (take n ws))) × ((bottom ≡ path_bottom 0 (rings_in (take n ws))) × Z)
-
+-- between which levels a path of so many words lies
 abbrev pub Spans : List ℕ → ℕ → ℕ → ℕ → Type 0
-Spans ws n top bottom = SpansAnd (Unit {0}) ws n top bottom
+Spans ws n top bottom = (top ≡ path_top 16777216 (rings_in (take n ws))) × ((bottom ≡ path_bottom 0 (rings_in (take n ws))) × Unit {0})
 
 pub spans_of : (p : Path) → Spans p.words.now p.used p.extent.top p.extent.bottom
 spans_of p = (p.top, (p.bottom, tt))
@@ -45,9 +39,39 @@ spans_before p = (p.over, (p.under, tt))
 
 -- the whole invariant: how the path lies, its extent, and that of the one before it
 pub kept : (ws : List ℕ) (start last used total before top bottom over under : ℕ) → Laid ws start last used total → Spans ws used top bottom → Spans ws before over under → (0 < used → before ≡ 0) →
-    LaidAnd (SpansAnd (SpansAnd ((0 < used → before ≡ 0) × Unit {0}) ws before over under) ws used top bottom) ws start last used total
+    record {
+      room : 3072 ≤ length ws;
+      few : total ≤ 1024;
+      short : used ≤ 3 * total;
+      begins : start ≤ used;
+      none : last ≡ 0 → used ≡ 0;
+      ends : 0 < last → used ≡ start + 1 + 2 * last;
+      counts : 0 < last → get_or ws start 0 ≡ last;
+      adds : points (rings_in (take start ws)) + last ≡ total;
+      whole : complete (take start ws) ≡ true;
+      top : top ≡ path_top 16777216 (rings_in (take used ws));
+      bottom : bottom ≡ path_bottom 0 (rings_in (take used ws));
+      over : over ≡ path_top 16777216 (rings_in (take before ws));
+      under : under ≡ path_bottom 0 (rings_in (take before ws));
+      begun : 0 < used → before ≡ 0
+    }
 kept ws start last used total before top bottom over under l s b h =
-    (l.0, (l.1.0, (l.1.1.0, (l.1.1.1.0, (l.1.1.1.1.0, (l.1.1.1.1.1.0, (l.1.1.1.1.1.1.0, (l.1.1.1.1.1.1.1.0, (l.1.1.1.1.1.1.1.1.0, (s.0, (s.1.0, (b.0, (b.1.0, (h, tt))))))))))))))
+    record {
+      room = l.0;
+      few = l.1.0;
+      short = l.1.1.0;
+      begins = l.1.1.1.0;
+      none = l.1.1.1.1.0;
+      ends = l.1.1.1.1.1.0;
+      counts = l.1.1.1.1.1.1.0;
+      adds = l.1.1.1.1.1.1.1.0;
+      whole = l.1.1.1.1.1.1.1.1.0;
+      top = s.0;
+      bottom = s.1.0;
+      over = b.0;
+      under = b.1.0;
+      begun = h;
+    }
 
 -- the words of the open subpath's points
 abbrev body : List ℕ → ℕ → ℕ → List ℕ

@@ -12,5 +12,5 @@ loop-i-preserved c =
       λ p.
           let n : ℕ = (c.loop-i.invariant.3 p).0 in
           let d : ℕ = get_or s i 0 - 48 in
-          (10 * n + d, c.with-digit-value.ensures ∙ capped_more c.loop-i.value n d (c.loop-i.invariant.3 p).1, (c.loop-i.invariant.3 p).2 ∙ number_goes s i p n (omega arith) (sym c.if-digit.ensures)),
+          (10 * n + d, c.with_digit-value.ensures ∙ capped_more c.loop-i.value n d (c.loop-i.invariant.3 p).1, (c.loop-i.invariant.3 p).2 ∙ number_goes s i p n (omega arith) (sym c.if-digit.ensures)),
     )

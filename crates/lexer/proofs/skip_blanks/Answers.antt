@@ -9,4 +9,4 @@ loop-i-preserved-then-space c = (omega arith, c.loop-i.invariant.1 ∙ skip_spac
 pub loop-i-preserved : goal.loop-i-preserved
 loop-i-preserved c =
     let n : eqb (get_or c.args.source.now c.loop-i.i 0) 37 ≡ true = eq-eqb _ _ (omega arith) in
-    (omega arith, c.loop-i.invariant.1 ∙ enter_remark c.args.source.now c.loop-i.i (omega arith) n ∙ c.skip-remark-i.ensures.rest)
+    (omega arith, c.loop-i.invariant.1 ∙ enter_remark c.args.source.now c.loop-i.i (omega arith) n ∙ c.skip_remark-i.ensures.rest)

@@ -8,36 +8,36 @@ unfolding goes_on finished is_between
 returns-then-end-place-gt-LETTERS c =
     let s = c.args.source.now in
     let p = c.args.place in
-    let found = c.letters-end-end.ensures in
-    let r = c.letters-end-end.result in
+    let found = c.letters_end-end.ensures in
+    let r = c.letters_end-end.result in
     let w = take (r - p) (drop p s) in
     (refl, letters_long s p p r (a_word p w) (word p w) refl found.bound (found.within (omega arith)) refl (word_run s p r c.requires.0 c.requires.1 found.bound found.places) found.stops (omega arith))
 
-pub returns-then-not-may-end : goal.returns-then-not-may-end
+pub returns-then-not-may_end : goal.returns-then-not-may_end
 unfolding goes_on finished is_between cannot_read
-returns-then-not-may-end c =
+returns-then-not-may_end c =
     let s = c.args.source.now in
     let p = c.args.place in
-    let found = c.letters-end-end.ensures in
-    let r = c.letters-end-end.result in
+    let found = c.letters_end-end.ensures in
+    let r = c.letters_end-end.result in
     let w = take (r - p) (drop p s) in (
       refl,
       letters_stuck s p p r (a_word p w) (word p w) refl found.bound (found.within (omega arith)) refl (word_run s p r c.requires.0 c.requires.1 found.bound found.places) found.stops (λ qs len left. refl) (omega arith)
-          (sym c.if-not-may-end.ensures),
+          (sym c.if-not-may_end.ensures),
     )
 
-pub slice-bounds-result-end : goal.slice-bounds-result-end
-slice-bounds-result-end c = c.letters-end-end.ensures.within (omega arith)
+pub slice_bounds-result-end : goal.slice_bounds-result-end
+slice_bounds-result-end c = c.letters_end-end.ensures.within (omega arith)
 
 pub returns : goal.returns
 unfolding goes_on finished is_between
 returns c =
     let s = c.args.source.now in
     let p = c.args.place in
-    let found = c.letters-end-end.ensures in
-    let r = c.letters-end-end.result in
+    let found = c.letters_end-end.ensures in
+    let r = c.letters_end-end.result in
     let w = take (r - p) (drop p s) in (
       passed s is_letter p r found.bound c.requires.0 c.requires.1 found.stops,
       found.within (omega arith),
-      letters_are s p p r (a_word p w) (word p w) refl found.bound (found.within (omega arith)) refl (word_run s p r c.requires.0 c.requires.1 found.bound found.places) found.stops (omega arith) (sym c.if-not-may-end.ensures),
+      letters_are s p p r (a_word p w) (word p w) refl found.bound (found.within (omega arith)) refl (word_run s p r c.requires.0 c.requires.1 found.bound found.places) found.stops (omega arith) (sym c.if-not-may_end.ensures),
     )

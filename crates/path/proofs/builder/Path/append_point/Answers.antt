@@ -27,20 +27,20 @@ invariant_of-self c =
     let p = c.args.self.now in
     let used = p.ends (omega arith) in
     let none = p.begun (omega arith) in
-    (let all = kept (set p.words.now p.used c.args.x) p.start p.last p.used p.total p.before p.extent.top p.extent.bottom p.reached.top p.reached.bottom
+    kept (set p.words.now p.used c.args.x) p.start p.last p.used p.total p.before p.extent.top p.extent.bottom p.reached.top p.reached.bottom
     (spare p.words.now p.start p.last p.used p.total p.used c.args.x (omega arith) (laid_of p))
     (spans_spare p.words.now p.used p.extent.top p.extent.bottom p.used c.args.x (omega arith) (spans_of p))
-    (spans_spare p.words.now p.before p.reached.top p.reached.bottom p.used c.args.x (omega arith) (spans_before p)) p.begun in (all.0, all.1))
+    (spans_spare p.words.now p.before p.reached.top p.reached.bottom p.used c.args.x (omega arith) (spans_before p)) p.begun
 
 pub invariant_of-self-2 : goal.invariant_of-self-2
 invariant_of-self-2 c =
     let p = c.args.self.now in
     let used = p.ends (omega arith) in
     let none = p.begun (omega arith) in
-    (let all = kept (set (set p.words.now p.used c.args.x) (p.used + 1) c.args.y) p.start p.last p.used p.total p.before p.extent.top p.extent.bottom p.reached.top p.reached.bottom
+    kept (set (set p.words.now p.used c.args.x) (p.used + 1) c.args.y) p.start p.last p.used p.total p.before p.extent.top p.extent.bottom p.reached.top p.reached.bottom
     (spare (set p.words.now p.used c.args.x) p.start p.last p.used p.total (p.used + 1) c.args.y (omega arith) (spare p.words.now p.start p.last p.used p.total p.used c.args.x (omega arith) (laid_of p)))
     (spans_spare (set p.words.now p.used c.args.x) p.used p.extent.top p.extent.bottom (p.used + 1) c.args.y (omega arith) (spans_spare p.words.now p.used p.extent.top p.extent.bottom p.used c.args.x (omega arith) (spans_of p)))
-    (spans_spare (set p.words.now p.used c.args.x) p.before p.reached.top p.reached.bottom (p.used + 1) c.args.y (omega arith) (spans_spare p.words.now p.before p.reached.top p.reached.bottom p.used c.args.x (omega arith) (spans_before p))) p.begun in (all.0, all.1))
+    (spans_spare (set p.words.now p.used c.args.x) p.before p.reached.top p.reached.bottom (p.used + 1) c.args.y (omega arith) (spans_spare p.words.now p.before p.reached.top p.reached.bottom p.used c.args.x (omega arith) (spans_before p))) p.begun
 
 pub invariant_of-self-3 : goal.invariant_of-self-3
 invariant_of-self-3 c =
@@ -48,10 +48,10 @@ invariant_of-self-3 c =
     let used = p.ends (omega arith) in
     let none = p.begun (omega arith) in
     let e = c.reaching-extent.result in
-    (let all = kept (added p.words.now p.start p.last p.used c.args.x c.args.y) p.start (p.last + 1) (p.used + 2) (p.total + 1) p.before e.top e.bottom p.reached.top p.reached.bottom
+    kept (added p.words.now p.start p.last p.used c.args.x c.args.y) p.start (p.last + 1) (p.used + 2) (p.total + 1) p.before e.top e.bottom p.reached.top p.reached.bottom
     (laid_added p.words.now p.start p.last p.used p.total c.args.x c.args.y (omega arith) (omega arith) (laid_of p))
     (spans_added p.words.now p.start p.last p.used p.total c.args.x c.args.y p.extent.top p.extent.bottom e.top e.bottom (laid_of p) (omega arith) (omega arith) (omega arith) (omega arith) (spans_of p) c.reaching-extent.ensures.top c.reaching-extent.ensures.bottom)
-    (spans_spare (set (set p.words.now p.used c.args.x) (p.used + 1) c.args.y) p.before p.reached.top p.reached.bottom p.start (p.last + 1) (omega arith) (spans_spare (set p.words.now p.used c.args.x) p.before p.reached.top p.reached.bottom (p.used + 1) c.args.y (omega arith) (spans_spare p.words.now p.before p.reached.top p.reached.bottom p.used c.args.x (omega arith) (spans_before p)))) (λ some. none) in (all.0, all.1))
+    (spans_spare (set (set p.words.now p.used c.args.x) (p.used + 1) c.args.y) p.before p.reached.top p.reached.bottom p.start (p.last + 1) (omega arith) (spans_spare (set p.words.now p.used c.args.x) p.before p.reached.top p.reached.bottom (p.used + 1) c.args.y (omega arith) (spans_spare p.words.now p.before p.reached.top p.reached.bottom p.used c.args.x (omega arith) (spans_before p)))) (λ some. none)
 
 pub returns : goal.returns
 returns c =

@@ -15,36 +15,36 @@ pub invariant_of-self : goal.invariant_of-self
 invariant_of-self c =
     let p = c.args.self.now in
     let none = c.empty-self.result in
-    (let all = kept p.words.now p.start p.last p.used p.total 0 p.extent.top p.extent.bottom none.top none.bottom (laid_of p) (spans_of p)
-    (spans_none p.words.now none.top none.bottom c.empty-self.ensures.top c.empty-self.ensures.bottom) (λ some. refl) in (all.0, all.1))
+    kept p.words.now p.start p.last p.used p.total 0 p.extent.top p.extent.bottom none.top none.bottom (laid_of p) (spans_of p)
+    (spans_none p.words.now none.top none.bottom c.empty-self.ensures.top c.empty-self.ensures.bottom) (λ some. refl)
 
 pub invariant_of-self-2 : goal.invariant_of-self-2
 invariant_of-self-2 c =
     let p = c.args.self.now in
     let none = c.empty-self.result in
-    (let all = kept (set p.words.now p.used 1) p.start p.last p.used p.total 0 p.extent.top p.extent.bottom none.top none.bottom
+    kept (set p.words.now p.used 1) p.start p.last p.used p.total 0 p.extent.top p.extent.bottom none.top none.bottom
     (spare p.words.now p.start p.last p.used p.total p.used 1 (omega arith) (laid_of p))
     (spans_spare p.words.now p.used p.extent.top p.extent.bottom p.used 1 (omega arith) (spans_of p))
-    (spans_none (set p.words.now p.used 1) none.top none.bottom c.empty-self.ensures.top c.empty-self.ensures.bottom) (λ some. refl) in (all.0, all.1))
+    (spans_none (set p.words.now p.used 1) none.top none.bottom c.empty-self.ensures.top c.empty-self.ensures.bottom) (λ some. refl)
 
 pub invariant_of-self-3 : goal.invariant_of-self-3
 invariant_of-self-3 c =
     let p = c.args.self.now in
     let none = c.empty-self.result in
-    (let all = kept (set (set p.words.now p.used 1) (p.used + 1) c.args.x) p.start p.last p.used p.total 0 p.extent.top p.extent.bottom none.top none.bottom
+    kept (set (set p.words.now p.used 1) (p.used + 1) c.args.x) p.start p.last p.used p.total 0 p.extent.top p.extent.bottom none.top none.bottom
     (spare (set p.words.now p.used 1) p.start p.last p.used p.total (p.used + 1) c.args.x (omega arith) (spare p.words.now p.start p.last p.used p.total p.used 1 (omega arith) (laid_of p)))
     (spans_spare (set p.words.now p.used 1) p.used p.extent.top p.extent.bottom (p.used + 1) c.args.x (omega arith) (spans_spare p.words.now p.used p.extent.top p.extent.bottom p.used 1 (omega arith) (spans_of p)))
-    (spans_none (set (set p.words.now p.used 1) (p.used + 1) c.args.x) none.top none.bottom c.empty-self.ensures.top c.empty-self.ensures.bottom) (λ some. refl) in (all.0, all.1))
+    (spans_none (set (set p.words.now p.used 1) (p.used + 1) c.args.x) none.top none.bottom c.empty-self.ensures.top c.empty-self.ensures.bottom) (λ some. refl)
 
 pub invariant_of-self-4 : goal.invariant_of-self-4
 invariant_of-self-4 c =
     let p = c.args.self.now in
     let none = c.empty-self.result in
     let e = c.reaching-extent.result in
-    (let all = kept (begun p.words.now p.used c.args.x c.args.y) p.used 1 (p.used + 3) (p.total + 1) 0 e.top e.bottom none.top none.bottom
+    kept (begun p.words.now p.used c.args.x c.args.y) p.used 1 (p.used + 3) (p.total + 1) 0 e.top e.bottom none.top none.bottom
     (laid_begun p.words.now p.start p.last p.used p.total c.args.x c.args.y (omega arith) (laid_of p))
     (spans_begun p.words.now p.start p.last p.used p.total c.args.x c.args.y p.extent.top p.extent.bottom e.top e.bottom (laid_of p) (omega arith) (omega arith) (omega arith) (spans_of p) c.reaching-extent.ensures.top c.reaching-extent.ensures.bottom)
-    (spans_none (begun p.words.now p.used c.args.x c.args.y) none.top none.bottom c.empty-self.ensures.top c.empty-self.ensures.bottom) (λ some. refl) in (all.0, all.1))
+    (spans_none (begun p.words.now p.used c.args.x c.args.y) none.top none.bottom c.empty-self.ensures.top c.empty-self.ensures.bottom) (λ some. refl)
 
 pub returns : goal.returns
 returns c =

@@ -8,7 +8,7 @@ invariant_of-self c =
     let p = c.args.self.now in
     let ws = p.words.now in
     let e = c.empty-self.result in
-    (let all = kept ws 0 0 0 0 p.used e.top e.bottom p.extent.top p.extent.bottom (laid_none ws p.room) (spans_none ws e.top e.bottom c.empty-self.ensures.top c.empty-self.ensures.bottom) (spans_of p) (λ some. omega arith) in (all.0, all.1))
+    kept ws 0 0 0 0 p.used e.top e.bottom p.extent.top p.extent.bottom (laid_none ws p.room) (spans_none ws e.top e.bottom c.empty-self.ensures.top c.empty-self.ensures.bottom) (spans_of p) (λ some. omega arith)
 
 pub returns : goal.returns
 returns c = record { rings = rings_none; ring = points_none; same = search rules; lent = search rules }
