@@ -42,4 +42,4 @@ wider_reads can also wider bs ts e =
     passing (cannot_read ps (length bs) 0) (above_limit ps also 0 0 []) (ltb (length bs) 16777216) (build ps [] [] []) ts p.0 p.1 (wider_limit can also wider ps 0 0 [] p.2) p.3
 
 pub first_stage_kept : FirstStageKept
-first_stage_kept = wider_reads thin stage (λ k e. refl)
+first_stage_kept = wider_reads thin stage (λ k e. e)

@@ -13,7 +13,7 @@ returns c =
     record {
       value = λ x le lt.
           c.sweep.ensures.value x (omega arith)
-          ∙ c.cross-path-crossings.ensures.value x le lt
+          ∙ c.cross_path-crossings.ensures.value x le lt
           ∙ ap (differ (in_path (rings_in c.args.path.now) (16 * x + 8) c.args.level)) (odd_none (bit_at was) (suc x) (λ k less. bit_unset was k (c.requires.empty (k / 64))))
           ∙ differ_false (in_path (rings_in c.args.path.now) (16 * x + 8) c.args.level);
       within = c.sweep.ensures.within;

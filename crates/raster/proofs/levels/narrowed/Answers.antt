@@ -10,7 +10,7 @@ loop-path-preserved c =
     let clip = rings_in c.in-Some.path.now in
     let others = paths_in c.in-Some.others.now in
     let rest = paths_in c.loop-path.rest.now in
-    let reached = c.levels-of-reached.ensures in (
+    let reached = c.levels_of-reached.ensures in (
       fold_more (λ m k. max m (path_top 16777216 k)) c.loop-path.top _ clip others rest n.cases (c.max-top.ensures ∙ ap (max c.loop-path.top) reached.top) ∙ c.loop-path.invariant.0,
       fold_more (λ m k. min m (path_bottom 0 k)) c.loop-path.bottom _ clip others rest n.cases (c.min-bottom.ensures ∙ ap (min c.loop-path.bottom) reached.bottom) ∙ c.loop-path.invariant.1,
       omega (arith, n.rest),
@@ -19,7 +19,7 @@ loop-path-preserved c =
 pub returns : goal.returns
 returns c =
     let rest = paths_in c.loop-path.rest.now in
-    let over = c.in-default.ensures.cases in
+    let over = c.in_default.ensures.cases in
     record {
       top = fold_all (λ m k. max m (path_top 16777216 k)) c.loop-path.top rest over ∙ c.loop-path.invariant.0;
       bottom = fold_all (λ m k. min m (path_bottom 0 k)) c.loop-path.bottom rest over ∙ c.loop-path.invariant.1;

@@ -19,7 +19,7 @@ loop-corner-preserved c =
 pub returns : goal.returns
 returns c =
     let rest = points_in c.loop-corner.rest.now in
-    let over = c.in-default.ensures.cases in
+    let over = c.in_default.ensures.cases in
     record {
       top = fold_all (λ m (q : Point). min m q.y) c.loop-corner.top rest over ∙ c.loop-corner.invariant.0;
       bottom = fold_all (λ m (q : Point). max m q.y) c.loop-corner.bottom rest over ∙ c.loop-corner.invariant.1;

@@ -6,27 +6,27 @@ use Rattle.words.specs.Naming.{known_in}
 use Rattle.tokens.specs.Stage.{stage}
 use Rattle.words.proofs.meaning.word_token.Goals as goal
 
-pub returns-then-in-stage : goal.returns-then-in-stage
+pub returns-then-in_stage : goal.returns-then-in_stage
 unfolding word_limit words_after as_token
-returns-then-in-stage c =
+returns-then-in_stage c =
     let w = c.args.letters.now in
     let ws = known_in c.args.names.now c.args.known in
     let is = c.in-Some.ensures in
-    (ap (λ f. word_limit f stage ws w) (sym is) ∙ sym c.if-in-stage.ensures, ap (λ f. as_token f ws w) is, omega arith, ap (λ f. words_after f ws w) is)
+    (ap (λ f. word_limit f stage ws w) (sym is) ∙ sym c.if-in_stage.ensures, ap (λ f. as_token f ws w) is, omega arith, ap (λ f. words_after f ws w) is)
 
-pub returns-else-in-stage : goal.returns-else-in-stage
+pub returns-else-in_stage : goal.returns-else-in_stage
 unfolding word_limit
-returns-else-in-stage c =
+returns-else-in_stage c =
     let w = c.args.letters.now in
     let ws = known_in c.args.names.now c.args.known in
-    ap (λ f. word_limit f stage ws w) (sym c.in-Some.ensures) ∙ sym c.if-in-stage.ensures
+    ap (λ f. word_limit f stage ws w) (sym c.in-Some.ensures) ∙ sym c.if-in_stage.ensures
 
-pub returns-in-default : goal.returns-in-default
+pub returns-in_default : goal.returns-in_default
 unfolding word_limit
-returns-in-default c =
+returns-in_default c =
     let w = c.args.letters.now in
     let ws = known_in c.args.names.now c.args.known in
-    ap (λ f. word_limit f stage ws w) (sym c.in-None.ensures) ∙ c.in-default.ensures.0
+    ap (λ f. word_limit f stage ws w) (sym c.in-None.ensures) ∙ c.in_default.ensures.0
 
 pub returns-in-Some-enter : goal.returns-in-Some-enter
 unfolding word_limit words_after as_token

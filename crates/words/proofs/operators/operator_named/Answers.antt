@@ -12,7 +12,7 @@ returns-then-same c =
     let w = c.args.letters.now in
     let k = c.loop-k.k in
     let t : same_word w (spelled k) ≡ true = ap (same_word w) (sym c.spelling.ensures) ∙ sym c.if-same.ensures in
-    found_known c.operator-from.result ∙ ap found_at c.operator-from.ensures ∙ sym (c.loop-k.invariant ∙ named_more k w (omega arith) ∙ simp t)
+    found_known c.operator_from.result ∙ ap found_at c.operator_from.ensures ∙ sym (c.loop-k.invariant ∙ named_more k w (omega arith) ∙ simp t)
 
 pub loop-k-preserved : goal.loop-k-preserved
 loop-k-preserved c =

@@ -8,4 +8,4 @@ pub returns : goal.returns
 returns c =
     let m = c.args.self.now in
     let xs = m.values.now in
-    λ p t. same_stack (state m p t) (ap (λ k. map value_of (reverse (take k xs))) c.saturating-sub-self.ensures ∙ tops_drop value_of xs m.height c.args.n (omega arith))
+    λ p t. same_stack (state m p t) (ap (λ k. map value_of (reverse (take k xs))) c.saturating_sub-self.ensures ∙ tops_drop value_of xs m.height c.args.n (omega arith))

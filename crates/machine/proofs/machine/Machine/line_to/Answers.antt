@@ -54,7 +54,7 @@ unfolding operate
 returns c =
     let m = c.args.self.now in
     let p = c.args.path.now in
-    let q = c.append-point.new.self in
+    let q = c.append_point.new.self in
     let drawn = c.if-not-append-point.ensures in
     let open-there = c.if-not-is-open.ensures in
     let room : ltb (points_of p) 1024 ≡ true = ap (λ b. b && ltb (points_of p) 1024) open-there ∙ sym drawn.value in

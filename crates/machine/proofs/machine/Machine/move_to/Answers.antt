@@ -43,7 +43,7 @@ unfolding operate
 returns c =
     let m = c.args.self.now in
     let p = c.args.path.now in
-    let q = c.begin-subpath.new.self in
+    let q = c.begin_subpath.new.self in
     let drawn = c.if-not-begin-subpath.ensures in
     let at = point_of c.in-Some.corner in
     let vs = drop 2 (stack_of m) in

@@ -16,10 +16,10 @@ pub returns-then-n-gt-WHITE : goal.returns-then-n-gt-WHITE
 unfolding operate
 returns-then-n-gt-WHITE c =
     let m = c.args.self.now in
-    λ p t. sym (c.in-ok-n.ensures (state m p t) _ ∙ cond-false _ _ _ (le-ltb c.in-ok-n.n 256 (omega arith)))
+    λ p t. sym (c.in_ok-n.ensures (state m p t) _ ∙ cond-false _ _ _ (le-ltb c.in_ok-n.n 256 (omega arith)))
 
 pub returns : goal.returns
 unfolding operate
 returns c =
     let m = c.args.self.now in
-    λ p t. ap on (c.drop-operands.ensures p t) ∙ sym (c.in-ok-n.ensures (state m p t) _ ∙ cond-true _ _ _ (lt-ltb c.in-ok-n.n 256 (omega arith)))
+    λ p t. ap on (c.drop_operands.ensures p t) ∙ sym (c.in-ok-n.ensures (state m p t) _ ∙ cond-true _ _ _ (lt-ltb c.in-ok-n.n 256 (omega arith)))

@@ -30,4 +30,4 @@ returns c =
     let m = c.args.self.now in
     λ p t f.
     let s = state m p t in
-    c.in-ok-b.ensures s (λ b vs. with_one s vs (λ a us. f a b us)) ∙ c.in-ok-a.ensures s (λ a us. f a c.in-ok-b.b us)
+    c.in_ok-b.ensures s (λ b vs. with_one s vs (λ a us. f a b us)) ∙ c.in-ok-a.ensures s (λ a us. f a c.in_ok-b.b us)
