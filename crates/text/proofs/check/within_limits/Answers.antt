@@ -7,25 +7,25 @@ use Rattle.text.specs.Refusing.{passed_with}
 use Rattle.text.proofs.Limiting.{next_piece, at_the_end}
 use Rattle.text.proofs.check.within_limits.Goals as goal
 
-pub returns-in-default : goal.returns-in-default
+pub returns-in_default : goal.returns-in_default
 unfolding above_limit
-returns-in-default c =
+returns-in_default c =
     let s = c.args.source.now in
     let inv = c.loop-place.invariant in
-    let none = at_the_end s c.loop-place.at c.lexeme-at-next.result.1 c.lexeme-at-next.result.0 c.lexeme-at-next.ensures (sym c.in-default.ensures) in
+    let none = at_the_end s c.loop-place.at c.lexeme_at-next.result.1 c.lexeme_at-next.result.0 c.lexeme_at-next.ensures (sym c.in_default.ensures) in
     let counted : c.loop-place.counts.tokens ≡ length (from s 0) = omega (arith, inv.3, ap length none) in
     ap Ok counted ∙ ap (passed_with TooLarge (length (from s 0))) (sym (ap (λ z. limits z c.loop-place.counts c.loop-place.names) none) ∙ inv.4)
 
-pub returns-in-default-admit : goal.returns-in-default-admit
-returns-in-default-admit c =
+pub returns-in_default-admit : goal.returns-in_default-admit
+returns-in_default-admit c =
     let s = c.args.source.now in
     let inv = c.loop-place.invariant in
     let i = c.loop-place.at in
-    let j = c.lexeme-at-next.result.1 in
+    let j = c.lexeme_at-next.result.1 in
     let p = c.in-Some.place in
     let place = sym c.in-Some.ensures in
-    let next = next_piece s i j (length s) inv.2.0 p c.lexeme-at-next.result.0 c.lexeme-at-next.ensures place inv.2.1 in
-    let above = c.in-default-admit.ensures next.piece p (from s j) next.stands place in
+    let next = next_piece s i j (length s) inv.2.0 p c.lexeme_at-next.result.0 c.lexeme_at-next.ensures place inv.2.1 in
+    let above = c.in_default-admit.ensures next.piece p (from s j) next.stands place in
     ap (passed_with TooLarge (length (from s 0))) (sym above ∙ sym (ap (λ z. limits z c.loop-place.counts c.loop-place.names) next.is) ∙ inv.4)
 
 pub loop-place-preserved : goal.loop-place-preserved
@@ -33,8 +33,8 @@ loop-place-preserved c =
     let s = c.args.source.now in
     let inv = c.loop-place.invariant in
     let i = c.loop-place.at in
-    let j = c.lexeme-at-next.result.1 in
-    let next = next_piece s i j (length s) inv.2.0 c.in-Some.place c.lexeme-at-next.result.0 c.lexeme-at-next.ensures (sym c.in-Some.ensures) inv.2.1 in
+    let j = c.lexeme_at-next.result.1 in
+    let next = next_piece s i j (length s) inv.2.0 c.in-Some.place c.lexeme_at-next.result.0 c.lexeme_at-next.ensures (sym c.in-Some.ensures) inv.2.1 in
     let admitted = c.in-Some-admit.ensures next.piece (from s j) next.stands in (
       next.within,
       admitted.0,
@@ -47,5 +47,5 @@ pub loop-place-smaller : goal.loop-place-smaller
 loop-place-smaller c =
     let s = c.args.source.now in
     let inv = c.loop-place.invariant in
-    let next = next_piece s c.loop-place.at c.lexeme-at-next.result.1 (length s) inv.2.0 c.in-Some.place c.lexeme-at-next.result.0 c.lexeme-at-next.ensures (sym c.in-Some.ensures) inv.2.1 in
+    let next = next_piece s c.loop-place.at c.lexeme_at-next.result.1 (length s) inv.2.0 c.in-Some.place c.lexeme_at-next.result.0 c.lexeme_at-next.ensures (sym c.in-Some.ensures) inv.2.1 in
     omega (arith, next.on, next.within)

@@ -4,8 +4,8 @@ use Rattle.words.specs.Naming.{known_in}
 use Rattle.text.proofs.Storing.{Part}
 use Rattle.text.proofs.store.+store_row.Given as goal
 
-abbrev pub decreases-store-row : goal.decreases-store-row
-decreases-store-row l = l.depth
+abbrev pub decreases-store_row : goal.decreases-store_row
+decreases-store_row l = l.depth
 
 -- the tokens up to here are stored
 abbrev pub invariant-loop-p : goal.invariant-loop-p

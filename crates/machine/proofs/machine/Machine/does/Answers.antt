@@ -53,5 +53,5 @@ others code-operator.TheVariants.Keeps s a b d e f = refl
 others code-operator.TheVariants.Back s a b d e f = refl
 others code-operator.TheVariants.Shows s a b d e f = absurd (f refl)
 
-pub returns-in-default : goal.returns-in-default
-returns-in-default c = λ t. others c.args.op (state c.args.self.now c.args.path.now t) c.in-default.not-Moves c.in-default.not-Lines c.in-default.not-Fills c.in-default.not-Greys c.in-default.not-Shows
+pub returns-in_default : goal.returns-in_default
+returns-in_default c = λ t. others c.args.op (state c.args.self.now c.args.path.now t) c.in_default.not-Moves c.in_default.not-Lines c.in_default.not-Fills c.in_default.not-Greys c.in_default.not-Shows

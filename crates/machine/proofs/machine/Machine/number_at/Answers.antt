@@ -27,8 +27,8 @@ wrong_kind (code-value.TheVariants.Number n) s vs f other = absurd (other n refl
 wrong_kind (code-value.TheVariants.Body b) s vs f other = refl
 wrong_kind (code-value.TheVariants.Label k) s vs f other = refl
 
-pub returns-in-default : goal.returns-in-default
-returns-in-default c =
+pub returns-in_default : goal.returns-in_default
+returns-in_default c =
     let m = c.args.self.now in
     let rest = drop (c.args.below + 1) (stack_of m) in
-    λ s f. ap (λ vs. with_one s vs f) (tops_at value_of m.values.now m.height c.args.below _ (omega arith) (omega arith)) ∙ wrong_kind _ s rest f c.in-default.not-Number
+    λ s f. ap (λ vs. with_one s vs f) (tops_at value_of m.values.now m.height c.args.below _ (omega arith) (omega arith)) ∙ wrong_kind _ s rest f c.in_default.not-Number

@@ -5,12 +5,12 @@ use Rattle.machine.specs.Machine.{on, operate}
 use Rattle.machine.specs.Abstraction.{state, after}
 use Rattle.machine.proofs.machine.Machine.set_grey.Goals as goal
 
-pub returns-in-err-n : goal.returns-in-err-n
+pub returns-in_err-n : goal.returns-in_err-n
 unfolding operate
-returns-in-err-n c =
+returns-in_err-n c =
     let m = c.args.self.now in
-    let q = err_from_is_err_and c.from-residual.result c.from-residual.ensures.1 in
-    λ p t. ap (λ r. after r m p t) (q.1 ∙ ap Err q.2) ∙ sym (c.in-err-n.ensures (state m p t) _)
+    let q = err_from_is_err_and c.from_residual.result c.from_residual.ensures.1 in
+    λ p t. ap (λ r. after r m p t) (q.1 ∙ ap Err q.2) ∙ sym (c.in_err-n.ensures (state m p t) _)
 
 pub returns-then-n-gt-WHITE : goal.returns-then-n-gt-WHITE
 unfolding operate
@@ -22,4 +22,4 @@ pub returns : goal.returns
 unfolding operate
 returns c =
     let m = c.args.self.now in
-    λ p t. ap on (c.drop_operands.ensures p t) ∙ sym (c.in-ok-n.ensures (state m p t) _ ∙ cond-true _ _ _ (lt-ltb c.in-ok-n.n 256 (omega arith)))
+    λ p t. ap on (c.drop_operands.ensures p t) ∙ sym (c.in_ok-n.ensures (state m p t) _ ∙ cond-true _ _ _ (lt-ltb c.in_ok-n.n 256 (omega arith)))

@@ -7,8 +7,8 @@ use Rattle.machine.specs.Abstraction.{state, frame_of}
 use Rattle.machine.proofs.Stepping.{finished_there, once_more, leaves, takes_one}
 use Rattle.machine.proofs.machine.Machine.step.Goals as goal
 
-pub returns-in-default : goal.returns-in-default
-returns-in-default c = λ t. finished_there (state c.args.self.now c.args.path.now t) c.in-default.ensures
+pub returns-in_default : goal.returns-in_default
+returns-in_default c = λ t. finished_there (state c.args.self.now c.args.path.now t) c.in_default.ensures
 
 pub returns-then-f-gt0 : goal.returns-then-f-gt0
 returns-then-f-gt0 c =
@@ -26,7 +26,7 @@ returns-in-Number c =
     let p = c.args.path.now in
     let ts = decode c.in-Some-next_token.rest.now in
     λ t.
-    c.push-value.ensures p t ∙ ap (λ s. push s s.stack (amount c.in-Number.n)) (c.replace-top-in-Some-next-token.ensures p t)
+    c.push_value.ensures p t ∙ ap (λ s. push s s.stack (amount c.in-Number.n)) (c.replace_top-in-Some-next_token.ensures p t)
     ∙ takes_one (state c.args.self.now p t) (frame_of c.in-Some.f) _ (number c.in-Number.n) ts c.in-Some.ensures (ap (λ x. more (token_of x) ts) (sym c.in-Number.is) ∙ c.in-Some-next_token.ensures.value)
 
 pub returns-in-Does : goal.returns-in-Does
@@ -35,7 +35,7 @@ returns-in-Does c =
     let p = c.args.path.now in
     let ts = decode c.in-Some-next_token.rest.now in
     λ t.
-    c.does.ensures t ∙ ap (λ s. operate_in_stage s (operator_of c.in-Does.op)) (c.replace-top-in-Some-next-token.ensures p t)
+    c.does.ensures t ∙ ap (λ s. operate_in_stage s (operator_of c.in-Does.op)) (c.replace_top-in-Some-next_token.ensures p t)
     ∙ takes_one (state c.args.self.now p t) (frame_of c.in-Some.f) _ (does (operator_of c.in-Does.op)) ts c.in-Some.ensures (ap (λ x. more (token_of x) ts) (sym c.in-Does.is) ∙ c.in-Some-next_token.ensures.value)
 
 pub returns-in-Name : goal.returns-in-Name
@@ -44,7 +44,7 @@ returns-in-Name c =
     let p = c.args.path.now in
     let ts = decode c.in-Some-next_token.rest.now in
     λ t.
-    ap (ends 4) (c.replace-top-in-Some-next-token.ensures p t)
+    ap (ends 4) (c.replace_top-in-Some-next_token.ensures p t)
     ∙ takes_one (state c.args.self.now p t) (frame_of c.in-Some.f) _ (name c.in-Name.field-0) ts c.in-Some.ensures (ap (λ x. more (token_of x) ts) (sym c.in-Name.is) ∙ c.in-Some-next_token.ensures.value)
 
 pub returns-in-Quoted : goal.returns-in-Quoted
@@ -53,7 +53,7 @@ returns-in-Quoted c =
     let p = c.args.path.now in
     let ts = decode c.in-Some-next_token.rest.now in
     λ t.
-    c.push-value-in-Quoted.ensures p t ∙ ap (λ s. push s s.stack (label c.in-Quoted.k)) (c.replace-top-in-Some-next-token.ensures p t)
+    c.push_value-in-Quoted.ensures p t ∙ ap (λ s. push s s.stack (label c.in-Quoted.k)) (c.replace_top-in-Some-next_token.ensures p t)
     ∙ takes_one (state c.args.self.now p t) (frame_of c.in-Some.f) _ (quoted c.in-Quoted.k) ts c.in-Some.ensures (ap (λ x. more (token_of x) ts) (sym c.in-Quoted.is) ∙ c.in-Some-next_token.ensures.value)
 
 pub returns-in-Body : goal.returns-in-Body
@@ -62,5 +62,5 @@ returns-in-Body c =
     let p = c.args.path.now in
     let ts = decode c.in-Some-next_token.rest.now in
     λ t.
-    c.push-value-in-Body.ensures p t ∙ ap (λ s. push s s.stack (code (decode c.in-Body.b.now))) (c.replace-top-in-Some-next-token.ensures p t)
+    c.push_value-in-Body.ensures p t ∙ ap (λ s. push s s.stack (code (decode c.in-Body.b.now))) (c.replace_top-in-Some-next_token.ensures p t)
     ∙ takes_one (state c.args.self.now p t) (frame_of c.in-Some.f) _ (body (decode c.in-Body.b.now)) ts c.in-Some.ensures (ap (λ x. more (token_of x) ts) (sym c.in-Body.is) ∙ c.in-Some-next_token.ensures.value)
