@@ -47,4 +47,4 @@ exact k n t e few small =
 pub returns : goal.returns
 returns c =
     let t = past_of (run_in_stage c.args.steps (begin (decode c.args.tokens.now))) in
-    record { pages = exact _ c.args.steps t c.run-job-ending.ensures.seen c.run-job-ending.ensures.few (omega arith); words = c.run-job-ending.ensures.words; clips = c.run-job-ending.ensures.clips; ended = c.run-job-ending.ensures.ended }
+    record { pages = exact _ c.args.steps t c.run_job-ending.ensures.seen c.run_job-ending.ensures.few (omega arith); words = c.run_job-ending.ensures.words; clips = c.run_job-ending.ensures.clips; ended = c.run_job-ending.ensures.ended }

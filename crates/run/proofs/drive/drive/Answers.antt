@@ -61,7 +61,7 @@ loop-i-preserved g c =
             run_on c.args.steps i before (state m p u) (omega arith) (ap (λ e. after_event e m p t) (sym w.in-Painted.is) ∙ went) ∙ inv.1,
             ap g.E.Sink.view w.sink-is
                 ∙ w.painted.ensures.seen
-                ∙ ap (λ x. g.E.Sink.paint x (g.E.Sink.view c.loop-i.sink)) (same_paint w.front.ensures w.clip-words.ensures w.grey.ensures)
+                ∙ ap (λ x. g.E.Sink.paint x (g.E.Sink.view c.loop-i.sink)) (same_paint w.front.ensures w.clip_words.ensures w.grey.ensures)
                 ∙ told_painted g.E.Sink.paint g.E.Sink.page t _ _ _ inv.2,
             omega arith,
             ap g.E.Sink.lent w.sink-is ∙ w.painted.ensures.lent ∙ inv.4,
@@ -75,16 +75,16 @@ loop-i-preserved g c =
       )
     ]
 
-pub returns-then-is-finished : goal.returns-then-is-finished
-returns-then-is-finished g c =
+pub returns-then-is_finished : goal.returns-then-is_finished
+returns-then-is_finished g c =
     let inv = c.loop-i.invariant in
     let last = state c.loop-i.m c.loop-i.path inv.0 in
-    let q = used_up g.E.Sink.paint g.E.Sink.page c.args.steps c.loop-i.i 0 last _ _ _ (omega arith) (omega arith) (c.if-is-finished.ensures last) inv.1 inv.2 inv.3 in
+    let q = used_up g.E.Sink.paint g.E.Sink.page c.args.steps c.loop-i.i 0 last _ _ _ (omega arith) (omega arith) (c.if-is_finished.ensures last) inv.1 inv.2 inv.3 in
     record { ended = q.0; seen = q.1; few = q.2; lent = inv.4; after = same_end c.loop-i.m c.loop-i.path inv.0 _ q.3 }
 
-pub returns-else-is-finished : goal.returns-else-is-finished
-returns-else-is-finished g c =
+pub returns-else-is_finished : goal.returns-else-is_finished
+returns-else-is_finished g c =
     let inv = c.loop-i.invariant in
     let last = state c.loop-i.m c.loop-i.path inv.0 in
-    let q = used_up g.E.Sink.paint g.E.Sink.page c.args.steps c.loop-i.i 8 last _ _ _ (omega arith) (omega arith) (c.if-is-finished.ensures last) inv.1 inv.2 inv.3 in
+    let q = used_up g.E.Sink.paint g.E.Sink.page c.args.steps c.loop-i.i 8 last _ _ _ (omega arith) (omega arith) (c.if-is_finished.ensures last) inv.1 inv.2 inv.3 in
     record { ended = q.0; seen = q.1; few = q.2; lent = inv.4; after = same_end c.loop-i.m c.loop-i.path inv.0 _ q.3 }

@@ -66,7 +66,7 @@ store_row-after-requires t c =
     let inner = ready_open c.in-Open.place (from s j) ws (length s) (32 - c.args.depth) p.used (length c.args.words.now) part.ready in
     let deeper : 32 - c.args.depth + 1 ≡ 32 - (c.args.depth - 1) = omega arith in
     let same : length c.args.words.now ≡ length c.loop-p.words = omega arith in
-    (omega arith, (omega arith, (omega arith, (omega arith, subst (λ z. Ready (length s) z (p.used + 2) (length c.loop-p.words) (from s j) ws) deeper (subst (λ z. Ready (length s) (32 - c.args.depth + 1) (p.used + 2) z (from s j) ws) same inner.1)))))
+    (omega arith, ((omega arith, (omega arith, omega arith)), subst (λ z. Ready (length s) z (p.used + 2) (length c.loop-p.words) (from s j) ws) deeper (subst (λ z. Ready (length s) (32 - c.args.depth + 1) (p.used + 2) z (from s j) ws) same inner.1)))
 
 pub loop-p-preserved-in-Open : goal.loop-p-preserved-in-Open
 loop-p-preserved-in-Open t c =
