@@ -77,6 +77,9 @@ def renamed():
                     stay.add(name)
                 elif not is_lemma or name not in table:
                     table[name] = new
+    for path in files("crates", ".antt", ".rt"):
+        for name in re.findall(r"^(?:ghost )?use .* as ([a-z]\w*-\w+)", read(path), re.M):
+            table[name] = spelled(name[:1].upper() + name[1:] if re.search("-[A-Z]", name) else name, False)
     for name in kept:
         table.pop(name, None)
     return table, stay

@@ -11,5 +11,7 @@
 //             low       high          so a row costs what is set in it and not its width
 //
 // Words are lent, all 0 before and again after `clear`.
+#![tactic(auto)]
+
 pub mod painting;
 pub mod row;

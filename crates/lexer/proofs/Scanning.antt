@@ -1,9 +1,9 @@
 -- The pieces of a text, one byte at a time, and where a piece ends.
-use Rattle.std.proofs.Common.{◌≡◌, ℕ, zero, suc, ◌+◌, ◌-◌, ◌*◌, ◌<◌, ◌≤◌, min, Bool, true, false, cond, not, ◌&&◌, ◌||◌, eqb, ltb, leb, ◌⊎◌, List, [], ◌∷◌, ◌++◌, length, get_or, take, drop, sym, refl, ap, ◌∙◌, inl, inr, add-one, arith, drop-cons}
-use Rattle.std.proofs.lemmas.List.{drop_all, append-nil, append_assoc}
+use Rattle.std.proofs.Common.{◌≡◌, ℕ, ◌+◌, ◌-◌, ◌*◌, ◌<◌, ◌≤◌, min, true, false, not, ◌&&◌, eqb, List, ◌∷◌, ◌++◌, length, get_or, drop, sym, refl, ap, ◌∙◌, inl, inr, add-one, arith, drop-cons}
+use Rattle.std.proofs.lemmas.List.{drop_all, append-nil}
 use Rattle.std.proofs.lemmas.Bool.{cases_Bool}
-use Rattle.std.proofs.lemmas.Bool.Decides.{nat_tests, leb_tells, eqb_tells}
-use Rattle.lexer.specs.Reading.{Piece, opens, closes, digits, word, slashed, wrong, Within, between, a_number, a_word, a_quoted, a_remark, is_space, is_digit, is_letter, is_brace, may_begin, braces, begun, finished, goes_on, with_byte, is_between, pieces}
+use Rattle.std.proofs.lemmas.Bool.Decides.{nat_tests, leb_tells}
+use Rattle.lexer.specs.Reading.{wrong, Within, between, a_number, a_remark, is_space, is_digit, is_letter, is_brace, may_begin, braces, begun, finished, goes_on, with_byte, is_between, pieces}
 use Rattle.lexer.specs.Lexing.{from, ends_at}
 
 -- a byte that goes on with what has begun

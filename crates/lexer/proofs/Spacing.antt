@@ -4,7 +4,7 @@ use mathlib.Core.Path.{fun_ext}
 use Rattle.std.proofs.lemmas.List.{map-append}
 use Rattle.std.proofs.lemmas.Bool.{lt-ltb}
 use Rattle.tokens.specs.Token.{Token, number, quoted, body, none, turned}
-use Rattle.lexer.specs.Reading.{Piece, opens, closes, digits, word, slashed, wrong, Within, between, a_number, a_word, a_quoted, a_remark, is_space, finished, begun, braces, is_brace, may_begin, goes_on, with_byte, is_between, pieces, Fault, fine, at, cannot_read, as_operator, place_of, with_word, words_after, word_limit, above_limit, as_token, build, Read, refused, tokens, unless, read}
+use Rattle.lexer.specs.Reading.{Piece, opens, closes, digits, word, slashed, wrong, Within, between, a_number, a_word, a_quoted, a_remark, is_space, finished, begun, braces, is_brace, may_begin, goes_on, with_byte, is_between, pieces, Fault, fine, at, cannot_read, as_operator, place_of, with_word, words_after, word_limit, above_limit, as_token, build, Read, refused, tokens, unless}
 use Rattle.lexer.specs.Laws.{same_read, SpacesFree}
 use Rattle.lexer.proofs.Faults.{not_fine}
 

@@ -3,7 +3,7 @@ use Rattle.std.proofs.Common.{◌≡◌, ℕ, suc, ◌-◌, Bool, true, cond, �
 use Rattle.std.proofs.lemmas.Bool.{and_parts, cond-true}
 use Rattle.tokens.specs.Token.{Tokens}
 use Rattle.tokens.specs.Stage.{thin, stage}
-use Rattle.lexer.specs.Reading.{Piece, opens, closes, digits, word, slashed, wrong, between, pieces, Fault, fine, at, cannot_read, above_limit, word_limit, Found, operator, no_operator, as_operator, words_after, with_word, place_of, build, Read, refused, tokens, unless, read}
+use Rattle.lexer.specs.Reading.{Piece, opens, closes, digits, word, slashed, wrong, between, pieces, Fault, fine, at, cannot_read, above_limit, word_limit, Found, operator, no_operator, as_operator, words_after, with_word, build, refused, tokens, unless}
 use Rattle.lexer.specs.Laws.{WiderReads, FirstStageKept}
 use Rattle.lexer.proofs.Faults.{passed}
 use Rattle.lexer.proofs.Ranges.{tests_passed}

@@ -1,5 +1,5 @@
 -- What the lexer answers, by the pieces of a text. Cited by the contracts of the lexer and of the passes over it. Assumes nothing: these are definitions.
-use Rattle.std.specs.Prelude.{◌≡◌, ℕ, ◌+◌, ◌-◌, ◌*◌, ◌<◌, ◌≤◌, min, Bool, ◌||◌, List, [], ◌∷◌, ◌++◌, length, drop, nat_le, slice_index}
+use Rattle.std.specs.Prelude.{◌≡◌, ℕ, ◌<◌, ◌≤◌, min, Bool, ◌||◌, List, [], ◌∷◌, length, drop, nat_le, slice_index}
 use Rattle.lexer.specs.declared.Lexeme.{Lexeme}
 use Rattle.lexer.specs.declared.Lexeme.TheVariants.{End, Open, Close, Number, Word, Quoted, Wrong}
 use Rattle.lexer.specs.Reading.{Piece, opens, closes, digits, word, slashed, pieces, between, cannot_read, at, is_space, is_brace}

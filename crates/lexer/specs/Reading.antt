@@ -1,6 +1,6 @@
 -- What a text means: its pieces, whether it can be read, whether it is within the limits, and its tokens. Cited by every contract of this crate. Assumes nothing: these are definitions.
-use Rattle.std.specs.Prelude.{◌≡◌, ℕ, zero, suc, ◌+◌, ◌-◌, ◌*◌, ◌/◌, ◌<◌, ◌≤◌, Bool, true, false, cond, not, ◌&&◌, ◌||◌, List, [], ◌∷◌, ◌++◌, length, ◌==◌, nat_le, nat_lt}
-use Rattle.tokens.specs.Token.{Token, number, does, name, quoted, body, Tokens, none, more, turned, Operator, number_of, adds, takes, multiplies, divides, is_less, copies, drops, swaps, defines, repeats, when, moves, lines, fills, clips_by, greys, shifts, scales, keeps, back, shows}
+use Rattle.std.specs.Prelude.{ℕ, suc, ◌+◌, ◌-◌, ◌*◌, Bool, true, false, cond, not, ◌&&◌, ◌||◌, List, [], ◌∷◌, ◌++◌, length, ◌==◌, nat_le, nat_lt}
+use Rattle.tokens.specs.Token.{Token, number, does, name, quoted, body, Tokens, none, turned, Operator, number_of, adds, takes, multiplies, divides, is_less, copies, drops, swaps, defines, repeats, when, moves, lines, fills, clips_by, greys, shifts, scales, keeps, back, shows}
 
 -- a piece of text (the code's lexeme), with the byte at which it begins; `wrong` is a byte that cannot stand where it stands
 pub data Piece : Type 0 where

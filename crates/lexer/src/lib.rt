@@ -8,6 +8,8 @@
 //
 // `lexeme_at` is the one cursor over a text: it skips spaces, ends of lines and remarks, gives the lexeme there and
 // the byte behind it, or the first byte that cannot stand where it stands. It allocates nothing and copies nothing.
+#![tactic(auto)]
+
 ghost use Rattle.std.specs.Prelude.{◌≡◌, ℕ, ◌+◌, ◌-◌, ◌*◌, ◌<◌, ◌≤◌, min, true, false, List, ◌++◌, length, drop, ◌==◌, slice_index};
 ghost use Rattle.lexer.specs.Reading.{is_space, is_digit, is_letter, is_brace, pieces, between, a_number, a_word, a_quoted, a_remark};
 ghost use Rattle.lexer.specs.Lexing.{from, ends_at, Saw};

@@ -6,7 +6,7 @@ use Rattle.path.specs.Path.{Ring}
 use Rattle.path.specs.Stored.{paths_in, pieces, pieces_by}
 use Rattle.machine.specs.Machine.{Frame, State, begin}
 use Rattle.machine.specs.Abstraction.{frame_of, clips_in}
-use Rattle.machine.specs.declared.machine.Frame as code-Frame
+use Rattle.machine.specs.declared.machine.Frame as CodeFrame
 
 abbrev begun : List Ring → Ring → List (List Ring) → List Frame → State
 begun rs r cs fs =
@@ -30,11 +30,11 @@ nothing : decode [] ≡ none
 unfolding decode decode_in
 nothing = refl
 
-first_frame : (fs : List code-Frame.Frame) (f : code-Frame.Frame) → 0 < length fs → map frame_of (reverse (take 1 (set fs 0 f))) ≡ frame_of f ∷ []
+first_frame : (fs : List CodeFrame.Frame) (f : CodeFrame.Frame) → 0 < length fs → map frame_of (reverse (take 1 (set fs 0 f))) ≡ frame_of f ∷ []
 first_frame [] f some = let no_such : ⊥ = omega arith in absurd no_such
 first_frame (x ∷ xs) f some = refl
 
-pub begins : (ws : List ℕ) (rs : List Ring) (r : Ring) (fs : List code-Frame.Frame) (f : code-Frame.Frame) → rs ≡ [] → r ≡ [] → 0 < length fs →
+pub begins : (ws : List ℕ) (rs : List Ring) (r : Ring) (fs : List CodeFrame.Frame) (f : CodeFrame.Frame) → rs ≡ [] → r ≡ [] → 0 < length fs →
     frame_of f ≡ record { rest = decode ws; again = 0; whole = decode [] } → begun rs r (clips_in []) (map frame_of (reverse (take 1 (set fs 0 f)))) ≡ begin (decode ws)
 begins ws rs r fs f a b some is =
     let one : Frame → List Frame = λ x. x ∷ [] in

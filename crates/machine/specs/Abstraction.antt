@@ -13,8 +13,8 @@ use Rattle.machine.specs.declared.event.Fault.{Fault}
 use Rattle.machine.specs.declared.event.Fault.TheVariants.{StackUnderflow, WrongKind, OutOfRange, Undefined, NoCurrentPoint, NothingKept, LimitExceeded, StepsUsedUp}
 use Rattle.machine.specs.declared.event.Event.{Event}
 use Rattle.machine.specs.declared.event.Event.TheVariants.{On, Painted, Shown, Finished, Unsupported}
-use Rattle.machine.specs.declared.machine.Value as code-value
-use Rattle.machine.specs.declared.machine.Frame as code-Frame
+use Rattle.machine.specs.declared.machine.Value as code_value
+use Rattle.machine.specs.declared.machine.Frame as CodeFrame
 use Rattle.machine.specs.declared.machine.GraphicsState.{GraphicsState}
 use Rattle.machine.specs.declared.machine.Machine.{Machine}
 
@@ -29,12 +29,12 @@ fault_number NothingKept = 6
 fault_number LimitExceeded = 7
 fault_number StepsUsedUp = 8
 
-abbrev pub value_of : code-value.Value → Value
-value_of (code-value.TheVariants.Number n) = amount n
-value_of (code-value.TheVariants.Body b) = code (decode b.now)
-value_of (code-value.TheVariants.Label k) = label k
+abbrev pub value_of : code_value.Value → Value
+value_of (code_value.TheVariants.Number n) = amount n
+value_of (code_value.TheVariants.Body b) = code (decode b.now)
+value_of (code_value.TheVariants.Label k) = label k
 
-abbrev pub frame_of : code-Frame.Frame → Frame
+abbrev pub frame_of : CodeFrame.Frame → Frame
 frame_of f = record { rest = decode f.rest.now; again = f.again; whole = decode f.whole.now }
 
 -- clips stand in words one after another, the last one last; the written machine has it first

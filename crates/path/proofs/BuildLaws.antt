@@ -1,5 +1,5 @@
 -- A path that is being built, over plain lists: what its words decode to, and what a write and a new point leave.
-use Rattle.std.proofs.Common.{◌≡◌, ℕ, zero, suc, ◌+◌, ◌-◌, ◌*◌, ◌%◌, ◌<◌, ◌≤◌, min, max, true, ◌≢◌, List, [], ◌∷◌, ◌++◌, length, get_or, take, drop, set, sym, refl, ap, ◌∙◌, append_assoc, mod-eq_of_lt, arith, length-drop, length-set, length-take, drop-cons, get_or-set_other, get_or-set_same, take-suc-set, drop-set-lt, take-add}
+use Rattle.std.proofs.Common.{◌≡◌, ℕ, zero, suc, ◌+◌, ◌*◌, ◌%◌, ◌<◌, ◌≤◌, min, max, true, ◌≢◌, List, [], ◌∷◌, ◌++◌, length, get_or, take, drop, set, sym, refl, ap, ◌∙◌, append_assoc, mod-eq_of_lt, arith, length-drop, length-set, length-take, drop-cons, get_or-set_other, get_or-set_same, take-suc-set, drop-set-lt, take-add}
 use lib.Seq.{take-set-le, drop-set-add}
 use Rattle.path.specs.Path.{Point, points, finished}
 use Rattle.path.specs.Points.{point}
@@ -53,7 +53,7 @@ pub kept : (ws : List ℕ) (start last used total before top bottom over under :
       bottom : bottom ≡ path_bottom 0 (rings_in (take used ws));
       over : over ≡ path_top 16777216 (rings_in (take before ws));
       under : under ≡ path_bottom 0 (rings_in (take before ws));
-      begun : 0 < used → before ≡ 0
+      begun : 0 < used → before ≡ 0;
     }
 kept ws start last used total before top bottom over under l s b h =
     record {

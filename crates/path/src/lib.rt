@@ -13,6 +13,8 @@
 //     0                 start                     used
 //
 // Nobody else indexes these words.
+#![tactic(auto)]
+
 pub mod builder;
 pub mod cursor;
 pub mod extent;

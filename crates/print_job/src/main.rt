@@ -1,4 +1,6 @@
 // Reads a job from a file or standard input, and says how many tokens it has, or by which number and at which place it is refused.
+#![tactic(auto)]
+
 ghost use Rattle.std.specs.Prelude.{◌≤◌, IfOk};
 
 use anyhow::anyhow;

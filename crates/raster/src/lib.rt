@@ -12,6 +12,8 @@
 //     bytes | row first | row first + 1 | .. | count rows of width bytes each | left alone |
 //
 // Two rows of bits, of 128 words each, stand on the call stack.
+#![tactic(auto)]
+
 pub mod band;
 mod coverage;
 mod crossing;

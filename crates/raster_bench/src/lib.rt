@@ -3,6 +3,8 @@
 // In: words of a path and of its clips, a grey, and the bytes of a band, each slice as a pointer and a
 // length. Out: whether the sizes fit, and the band with the thing painted. No C caller is held to a
 // `requires`, so what does not fit is refused and nothing is written.
+#![tactic(auto)]
+
 ghost use Rattle.std.specs.Prelude.{◌≡◌, true, false, ◌+◌, ◌*◌, ◌≤◌, length};
 ghost use Rattle.raster.specs.Band.{PaintedBand};
 ghost use Rattle.raster.specs.Thing.{thing};

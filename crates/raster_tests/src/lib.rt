@@ -3,6 +3,7 @@
 // A dot's middle is at 16 * x + 8 and a row's level at 16 * y + 8. From left L to right R a square covers
 // the middles a with L <= a < R, and from top T to bottom B the levels b with T <= b < B. Each expected
 // row below is worked out from that, and none is taken from a run.
+#![tactic(auto)]
 
 #[cfg(test)]
 mod tests {

@@ -1,9 +1,9 @@
 -- One lexeme of the pass over the limits.
-use Rattle.std.proofs.Common.{◌≡◌, ℕ, zero, suc, ◌+◌, ◌-◌, ◌<◌, ◌≤◌, Bool, true, false, cond, ◌&&◌, eqb, ltb, List, [], ◌∷◌, length, Some, None, Option, sym, refl, ap, ◌∙◌, subst, add-one, arith}
+use Rattle.std.proofs.Common.{◌≡◌, ℕ, suc, ◌+◌, ◌-◌, ◌<◌, ◌≤◌, true, false, cond, eqb, ltb, List, [], ◌∷◌, length, Some, None, sym, refl, ap, ◌∙◌, subst, add-one, arith}
 use Rattle.std.proofs.lemmas.Bool.{lt-ltb, le-ltb}
 use Rattle.lexer.specs.declared.Lexeme.{Lexeme}
 use Rattle.lexer.specs.declared.Lexeme.TheVariants.{End, Open, Close, Number, Word, Quoted, Wrong}
-use Rattle.lexer.specs.Reading.{Piece, opens, closes, digits, word, slashed, wrong, Fault, fine, at, cannot_read, above_limit}
+use Rattle.lexer.specs.Reading.{Piece, opens, closes, digits, word, slashed, wrong, fine, at, cannot_read, above_limit}
 use Rattle.words.specs.Meaning.{Stands, Plain, plain_limit, plain_names}
 use Rattle.text.specs.Limits.{place_in}
 use Rattle.tokens.specs.Stage.{stage}

@@ -1,9 +1,8 @@
 -- One lexeme of a pass over a text: what is left of the text decides what the whole does.
-use Rattle.std.proofs.Common.{◌≡◌, ℕ, zero, suc, ◌+◌, ◌-◌, ◌<◌, ◌≤◌, Bool, true, false, cond, eqb, List, [], ◌∷◌, length, sym, refl, ap, ◌∙◌, subst, add-one, arith, Bor}
+use Rattle.std.proofs.Common.{◌≡◌, ℕ, ◌+◌, ◌-◌, ◌<◌, ◌≤◌, true, false, eqb, List, length, sym, ap, ◌∙◌, add-one, arith, Bor}
 use Rattle.std.proofs.lemmas.Bool.{eq-eqb, ne_eqb}
-use Rattle.lexer.specs.declared.Lexeme.{Lexeme}
-use Rattle.lexer.specs.declared.Lexeme.TheVariants.{End, Open, Close, Number, Word, Quoted, Wrong}
-use Rattle.lexer.specs.Reading.{Piece, opens, closes, digits, word, slashed, Fault, fine, at, cannot_read}
+use Rattle.lexer.specs.declared.Lexeme.TheVariants.{End, Open, Close, Number, Word, Quoted}
+use Rattle.lexer.specs.Reading.{fine, at, cannot_read}
 use Rattle.lexer.specs.Lexing.{from, Saw}
 
 -- past a number or a word the same braces are open

@@ -1,17 +1,17 @@
 -- A row of tokens that is being stored, one lexeme at a time.
-use Rattle.std.proofs.Common.{◌≡◌, ℕ, zero, suc, ◌+◌, ◌-◌, ◌*◌, ◌<◌, ◌≤◌, Bool, true, false, cond, ◌&&◌, eqb, ltb, List, [], ◌∷◌, ◌++◌, length, take, drop, set, sym, refl, ap, ◌∙◌, subst, add-one, arith, length-append, length-set, length-take, take-suc-set, drop-set-lt}
+use Rattle.std.proofs.Common.{◌≡◌, ℕ, suc, ◌+◌, ◌-◌, ◌<◌, ◌≤◌, true, false, ◌&&◌, eqb, ltb, List, [], ◌∷◌, ◌++◌, length, take, drop, set, sym, refl, ap, ◌∙◌, subst, arith, length-append, length-set, length-take, take-suc-set, drop-set-lt}
 use lib.Seq.{take-set-lt, set-append_left}
 use Rattle.std.proofs.lemmas.List.{append-nil, append_assoc, drop-drop}
 use Rattle.std.proofs.lemmas.Bool.{and_parts}
 use Rattle.std.proofs.lemmas.Bool.Decides.{nat_tests}
-use Rattle.tokens.specs.Token.{Token, number, does, name, quoted, body, Tokens, none, more, turned}
-use Rattle.lexer.specs.Reading.{Piece, opens, closes, digits, word, slashed, wrong, fine, at, cannot_read, above_limit, build, Found, operator, no_operator, as_operator, as_token}
-use Rattle.tokens.specs.declared.Token as code-token
+use Rattle.tokens.specs.Token.{Token, body, Tokens, none, more, turned}
+use Rattle.lexer.specs.Reading.{Piece, opens, closes, digits, word, slashed, wrong, fine, cannot_read, above_limit, build, Found, operator, no_operator, as_operator, as_token}
+use Rattle.tokens.specs.declared.Token as code_token
 use Rattle.tokens.specs.Stage.{stage}
 use Rattle.tokens.specs.Stored.{stored, all_stored, token_of}
 use Rattle.words.specs.Meaning.{Plain, plain_limit, plain_token, plain_names}
 use Rattle.text.specs.Storing.{begun_with, Ready, row_end, StoredRow}
-use Rattle.lexer.proofs.Faults.{not_fine, passed, failed}
+use Rattle.lexer.proofs.Faults.{passed, failed}
 
 -- two words set at the end of a front, whatever is stored behind them
 pub head_set : (ws : List ℕ) (u k n : ℕ) → u + 2 ≤ length ws → take (u + 2) (set (set ws u k) (u + 1) n) ≡ take u ws ++ (k ∷ (n ∷ []))
@@ -180,15 +180,15 @@ no_body (operator o) ws w e = let z : ◌≡◌ {A = ℕ} 0 1 = cc in omega arit
 no_body no_operator ws w e = let z : ◌≡◌ {A = ℕ} 0 1 = cc in omega arith
 
 -- the two words that a number's or a word's token begins with are all of it
-pub two_words : (t : code-token.Token) (q : Piece) (ws : List (List ℕ)) → Plain q → token_of t ≡ plain_token q ws → stored (token_of t) ≡ (begun_with t).0 ∷ ((begun_with t).1 ∷ [])
+pub two_words : (t : code_token.Token) (q : Piece) (ws : List (List ℕ)) → Plain q → token_of t ≡ plain_token q ws → stored (token_of t) ≡ (begun_with t).0 ∷ ((begun_with t).1 ∷ [])
 unfolding stored as_token
-two_words (code-token.TheVariants.Number n) q ws p e = refl
-two_words (code-token.TheVariants.Does op) q ws p e = refl
-two_words (code-token.TheVariants.Name k) q ws p e = refl
-two_words (code-token.TheVariants.Quoted k) q ws p e = refl
-two_words (code-token.TheVariants.Body b) (opens n) ws p e = absurd p
-two_words (code-token.TheVariants.Body b) (closes n) ws p e = absurd p
-two_words (code-token.TheVariants.Body b) (digits n v) ws p e = let z : ◌≡◌ {A = ℕ} 0 1 = cc in absurd (omega arith)
-two_words (code-token.TheVariants.Body b) (word n w) ws p e = absurd (no_body (as_operator w) ws w e)
-two_words (code-token.TheVariants.Body b) (slashed n w) ws p e = let z : ◌≡◌ {A = ℕ} 0 1 = cc in absurd (omega arith)
-two_words (code-token.TheVariants.Body b) (wrong n) ws p e = absurd p
+two_words (code_token.TheVariants.Number n) q ws p e = refl
+two_words (code_token.TheVariants.Does op) q ws p e = refl
+two_words (code_token.TheVariants.Name k) q ws p e = refl
+two_words (code_token.TheVariants.Quoted k) q ws p e = refl
+two_words (code_token.TheVariants.Body b) (opens n) ws p e = absurd p
+two_words (code_token.TheVariants.Body b) (closes n) ws p e = absurd p
+two_words (code_token.TheVariants.Body b) (digits n v) ws p e = let z : ◌≡◌ {A = ℕ} 0 1 = cc in absurd (omega arith)
+two_words (code_token.TheVariants.Body b) (word n w) ws p e = absurd (no_body (as_operator w) ws w e)
+two_words (code_token.TheVariants.Body b) (slashed n w) ws p e = let z : ◌≡◌ {A = ℕ} 0 1 = cc in absurd (omega arith)
+two_words (code_token.TheVariants.Body b) (wrong n) ws p e = absurd p

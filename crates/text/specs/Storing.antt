@@ -1,6 +1,6 @@
 -- Storing a text's tokens: what a row of tokens needs before it is stored, and what the words hold after it. Cited by the contracts of storing. Assumes nothing: these are definitions.
 use Rattle.std.specs.Prelude.{◌≡◌, ℕ, ◌+◌, ◌-◌, ◌*◌, ◌<◌, ◌≤◌, List, [], ◌∷◌, ◌++◌, length, take, drop, Ok, Err, Result}
-use Rattle.tokens.specs.declared.Token as code-token
+use Rattle.tokens.specs.declared.Token as code_token
 use Rattle.text.specs.declared.refusal.Refusal.{Refusal}
 use Rattle.tokens.specs.Token.{Token, body, Tokens, none, number_of, size, turned}
 use Rattle.lexer.specs.Reading.{Piece, fine, cannot_read, above_limit, build, Read, refused, tokens}
@@ -9,12 +9,12 @@ use Rattle.tokens.specs.Stage.{stage}
 use Rattle.tokens.specs.Stored.{operator_of, all_stored}
 
 -- the two words that a token begins with: its kind and its number, or how many words a body has
-abbrev pub begun_with : code-token.Token → ℕ × ℕ
-begun_with (code-token.TheVariants.Number n) = (0, n)
-begun_with (code-token.TheVariants.Does op) = (1, number_of (operator_of op))
-begun_with (code-token.TheVariants.Name k) = (2, k)
-begun_with (code-token.TheVariants.Quoted k) = (3, k)
-begun_with (code-token.TheVariants.Body b) = (4, length b.now)
+abbrev pub begun_with : code_token.Token → ℕ × ℕ
+begun_with (code_token.TheVariants.Number n) = (0, n)
+begun_with (code_token.TheVariants.Does op) = (1, number_of (operator_of op))
+begun_with (code_token.TheVariants.Name k) = (2, k)
+begun_with (code_token.TheVariants.Quoted k) = (3, k)
+begun_with (code_token.TheVariants.Body b) = (4, length b.now)
 
 -- pieces that can be read and are within the limits, so many braces being open, and two words are there for each
 pub record Ready (len left used room : ℕ) (ps : List Piece) (ws : List (List ℕ)) : Type 0 where

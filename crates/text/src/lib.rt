@@ -13,6 +13,8 @@
 // A body is read by recursion over a depth that falls from 32, and is handed on as the part of the words
 // that holds it: `tokens::next_token` gives the next token of any words whatever, and the words behind it.
 // The meaning of a text is `read` of lexer's Reading.antt, at the operators of `stage` of words' Stage.antt.
+#![tactic(auto)]
+
 mod check;
 pub mod laws;
 pub mod refusal;

@@ -1,4 +1,6 @@
 // Runs the reader on texts at its limits and next to them, and prints a line for each: how many tokens it has, or by which number and at which place it is refused.
+#![tactic(auto)]
+
 mod bytes;
 mod made;
 mod operators;

@@ -1,11 +1,11 @@
 -- Stored tokens read back: what stands first, that fuel makes no difference, and that what was stored is what is read.
-use Rattle.std.proofs.Common.{◌≡◌, ℕ, zero, suc, ◌+◌, ◌-◌, ◌%◌, ◌<◌, ◌≤◌, Bool, true, false, cond, eqb, ltb, List, [], ◌∷◌, ◌++◌, length, get_or, take, drop, Some, None, Option, sym, refl, ap, ◌∙◌, subst, mod-eq_of_lt, arith, length-drop, length-take, Bor}
+use Rattle.std.proofs.Common.{◌≡◌, ℕ, zero, suc, ◌<◌, ◌≤◌, Bool, false, eqb, ltb, List, [], ◌∷◌, ◌++◌, length, get_or, take, drop, Some, None, Option, sym, refl, ap, ◌∙◌, subst, mod-eq_of_lt, arith, length-drop, length-take, Bor}
 use Rattle.std.proofs.lemmas.List.{take_at, drop_at}
 use Rattle.std.proofs.lemmas.Bool.{le-ltb, lt-ltb, ltb-false, cond-true, cond-false, cond_both}
 use Rattle.tokens.specs.Token.{Token, number, does, name, quoted, body, Tokens, none, more, Operator, number_of, adds, takes, multiplies, divides, is_less, copies, drops, swaps, defines, repeats, when, moves, lines, fills, clips_by, greys, shifts, scales, keeps, back, shows, InRange, AllInRange}
-use Rattle.tokens.specs.Stored.{stored, all_stored, operator_at, Head, over, plain, nested, operator_head, by_kind, head_of, by_head, decode_in, decode, operator_of, token_of, head_with, seen, followed, Shorter, NextToken}
+use Rattle.tokens.specs.Stored.{stored, all_stored, operator_at, Head, over, plain, nested, operator_head, by_kind, head_of, by_head, decode_in, decode, token_of, head_with, NextToken}
 use Rattle.tokens.specs.Laws.{StoredReadsBack}
-use Rattle.tokens.specs.declared.Token as code-token
+use Rattle.tokens.specs.declared.Token as code_token
 
 -- the words of a head are fewer than so many
 abbrev pub Below : ℕ → Head → Type 0
@@ -119,24 +119,24 @@ pub stored_reads_back : StoredReadsBack
 stored_reads_back can ts r = read_back can ts r
 
 -- the next token as the code has it, from what stands first
-followed_by : (t : code-token.Token) (rest : List ℕ) → by_head decode (head_with t rest) ≡ more (token_of t) (decode rest)
-followed_by (code-token.TheVariants.Number n) rest = refl
-followed_by (code-token.TheVariants.Does op) rest = refl
-followed_by (code-token.TheVariants.Name k) rest = refl
-followed_by (code-token.TheVariants.Quoted k) rest = refl
-followed_by (code-token.TheVariants.Body b) rest = refl
+followed_by : (t : code_token.Token) (rest : List ℕ) → by_head decode (head_with t rest) ≡ more (token_of t) (decode rest)
+followed_by (code_token.TheVariants.Number n) rest = refl
+followed_by (code_token.TheVariants.Does op) rest = refl
+followed_by (code_token.TheVariants.Name k) rest = refl
+followed_by (code_token.TheVariants.Quoted k) rest = refl
+followed_by (code_token.TheVariants.Body b) rest = refl
 
-below_rest : (n : ℕ) (t : code-token.Token) (rest : List ℕ) → Below n (head_with t rest) → length rest < n
-below_rest n (code-token.TheVariants.Number k) rest h = h
-below_rest n (code-token.TheVariants.Does op) rest h = h
-below_rest n (code-token.TheVariants.Name k) rest h = h
-below_rest n (code-token.TheVariants.Quoted k) rest h = h
-below_rest n (code-token.TheVariants.Body b) rest h = h.1
+below_rest : (n : ℕ) (t : code_token.Token) (rest : List ℕ) → Below n (head_with t rest) → length rest < n
+below_rest n (code_token.TheVariants.Number k) rest h = h
+below_rest n (code_token.TheVariants.Does op) rest h = h
+below_rest n (code_token.TheVariants.Name k) rest h = h
+below_rest n (code_token.TheVariants.Quoted k) rest h = h
+below_rest n (code_token.TheVariants.Body b) rest h = h.1
 
 pub next_over : (ws : List ℕ) → over ≡ head_of ws → NextToken None ws
 next_over ws e = record { head = e; value = ap (by_head decode) e ∙ sym (decode_step ws); len = tt }
 
-pub next_is : (t : code-token.Token) (rest : Bor (List ℕ)) (ws : List ℕ) → head_with t rest.now ≡ head_of ws → NextToken (Some (t, rest)) ws
+pub next_is : (t : code_token.Token) (rest : Bor (List ℕ)) (ws : List ℕ) → head_with t rest.now ≡ head_of ws → NextToken (Some (t, rest)) ws
 next_is t rest ws e =
     record {
       head = e;

@@ -2,8 +2,8 @@
 use Rattle.std.specs.Prelude.{◌≡◌, ℕ, zero, suc, ◌%◌, ◌<◌, cond, List, [], ◌∷◌, ◌++◌, length, take, drop, Some, None, Option, ◌==◌, nat_lt, slice_index}
 use Rattle.std.specs.Borrow.{Bor}
 use Rattle.tokens.specs.Token.{Token, number, does, name, quoted, body, Tokens, none, more, Operator, number_of, adds, takes, multiplies, divides, is_less, copies, drops, swaps, defines, repeats, when, moves, lines, fills, clips_by, greys, shifts, scales, keeps, back, shows}
-use Rattle.tokens.specs.declared.Operator as code-operator
-use Rattle.tokens.specs.declared.Token as code-token
+use Rattle.tokens.specs.declared.Operator as code_operator
+use Rattle.tokens.specs.declared.Token as code_token
 
 unfoldable mutual
   pub stored : Token → List ℕ
@@ -79,62 +79,62 @@ unfoldable pub decode : List ℕ → Tokens
 decode ws = decode_in (length ws) ws
 
 -- what the code's operators and tokens mean
-abbrev pub operator_of : code-operator.Operator → Operator
-operator_of code-operator.TheVariants.Adds = adds
-operator_of code-operator.TheVariants.Takes = takes
-operator_of code-operator.TheVariants.Multiplies = multiplies
-operator_of code-operator.TheVariants.Divides = divides
-operator_of code-operator.TheVariants.IsLess = is_less
-operator_of code-operator.TheVariants.Copies = copies
-operator_of code-operator.TheVariants.Drops = drops
-operator_of code-operator.TheVariants.Swaps = swaps
-operator_of code-operator.TheVariants.Defines = defines
-operator_of code-operator.TheVariants.Repeats = repeats
-operator_of code-operator.TheVariants.When = when
-operator_of code-operator.TheVariants.Moves = moves
-operator_of code-operator.TheVariants.Lines = lines
-operator_of code-operator.TheVariants.Fills = fills
-operator_of code-operator.TheVariants.ClipsBy = clips_by
-operator_of code-operator.TheVariants.Greys = greys
-operator_of code-operator.TheVariants.Shifts = shifts
-operator_of code-operator.TheVariants.Scales = scales
-operator_of code-operator.TheVariants.Keeps = keeps
-operator_of code-operator.TheVariants.Back = back
-operator_of code-operator.TheVariants.Shows = shows
+abbrev pub operator_of : code_operator.Operator → Operator
+operator_of code_operator.TheVariants.Adds = adds
+operator_of code_operator.TheVariants.Takes = takes
+operator_of code_operator.TheVariants.Multiplies = multiplies
+operator_of code_operator.TheVariants.Divides = divides
+operator_of code_operator.TheVariants.IsLess = is_less
+operator_of code_operator.TheVariants.Copies = copies
+operator_of code_operator.TheVariants.Drops = drops
+operator_of code_operator.TheVariants.Swaps = swaps
+operator_of code_operator.TheVariants.Defines = defines
+operator_of code_operator.TheVariants.Repeats = repeats
+operator_of code_operator.TheVariants.When = when
+operator_of code_operator.TheVariants.Moves = moves
+operator_of code_operator.TheVariants.Lines = lines
+operator_of code_operator.TheVariants.Fills = fills
+operator_of code_operator.TheVariants.ClipsBy = clips_by
+operator_of code_operator.TheVariants.Greys = greys
+operator_of code_operator.TheVariants.Shifts = shifts
+operator_of code_operator.TheVariants.Scales = scales
+operator_of code_operator.TheVariants.Keeps = keeps
+operator_of code_operator.TheVariants.Back = back
+operator_of code_operator.TheVariants.Shows = shows
 
-abbrev pub known : Option code-operator.Operator → Option Operator
+abbrev pub known : Option code_operator.Operator → Option Operator
 known None = None
 known (Some op) = Some (operator_of op)
 
-abbrev pub token_of : code-token.Token → Token
-token_of (code-token.TheVariants.Number n) = number n
-token_of (code-token.TheVariants.Does op) = does (operator_of op)
-token_of (code-token.TheVariants.Name k) = name k
-token_of (code-token.TheVariants.Quoted k) = quoted k
-token_of (code-token.TheVariants.Body b) = body (decode b.now)
+abbrev pub token_of : code_token.Token → Token
+token_of (code_token.TheVariants.Number n) = number n
+token_of (code_token.TheVariants.Does op) = does (operator_of op)
+token_of (code_token.TheVariants.Name k) = name k
+token_of (code_token.TheVariants.Quoted k) = quoted k
+token_of (code_token.TheVariants.Body b) = body (decode b.now)
 
-abbrev pub head_with : code-token.Token → List ℕ → Head
-head_with (code-token.TheVariants.Number n) rest = plain (number n) rest
-head_with (code-token.TheVariants.Does op) rest = plain (does (operator_of op)) rest
-head_with (code-token.TheVariants.Name k) rest = plain (name k) rest
-head_with (code-token.TheVariants.Quoted k) rest = plain (quoted k) rest
-head_with (code-token.TheVariants.Body b) rest = nested b.now rest
+abbrev pub head_with : code_token.Token → List ℕ → Head
+head_with (code_token.TheVariants.Number n) rest = plain (number n) rest
+head_with (code_token.TheVariants.Does op) rest = plain (does (operator_of op)) rest
+head_with (code_token.TheVariants.Name k) rest = plain (name k) rest
+head_with (code_token.TheVariants.Quoted k) rest = plain (quoted k) rest
+head_with (code_token.TheVariants.Body b) rest = nested b.now rest
 
 -- the next token and the words after it, as a head, and as the row that they begin
-abbrev pub seen : Option (code-token.Token × Bor (List ℕ)) → Head
+abbrev pub seen : Option (code_token.Token × Bor (List ℕ)) → Head
 seen None = over
 seen (Some p) = head_with p.0 p.1.now
 
-abbrev pub followed : Option (code-token.Token × Bor (List ℕ)) → Tokens
+abbrev pub followed : Option (code_token.Token × Bor (List ℕ)) → Tokens
 followed None = none
 followed (Some p) = more (token_of p.0) (decode p.1.now)
 
-abbrev pub Shorter : ℕ → Option (code-token.Token × Bor (List ℕ)) → Type 0
+abbrev pub Shorter : ℕ → Option (code_token.Token × Bor (List ℕ)) → Type 0
 Shorter n None = Unit {0}
 Shorter n (Some p) = length p.1.now < n
 
 -- what is to be known of the next token of some words: what stands first in them, what they read as, and that fewer are left
-pub record NextToken (r : Option (code-token.Token × Bor (List ℕ))) (ws : List ℕ) : Type 0 where
+pub record NextToken (r : Option (code_token.Token × Bor (List ℕ))) (ws : List ℕ) : Type 0 where
   pub head : seen r ≡ head_of ws
   pub value : followed r ≡ decode ws
   pub len : Shorter (length ws) r

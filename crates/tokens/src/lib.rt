@@ -5,6 +5,8 @@
 // Two words a token, its kind and its number; a body's number is how many words follow that are its own, so
 // that skipping it is one addition. Any words can be read: numbers are cut to their range, an unknown kind or
 // operator ends the row, as a single last word does, and a body has at most the words that are there.
+#![tactic(auto)]
+
 ghost use Rattle.std.specs.Prelude.{◌≡◌, take, drop};
 ghost use Rattle.tokens.specs.Token.{number_of};
 ghost use Rattle.tokens.specs.Stored.{operator_of, operator_at, known, NextToken};

@@ -7,7 +7,7 @@ use Rattle.path.specs.Stored.{paths_in, pieces, pieces_by}
 use Rattle.machine.specs.Machine.{Frame, State, begin}
 use Rattle.whole_machine.specs.Clips.{clips_in}
 use Rattle.whole_machine.specs.Abstraction.{frame_of}
-use Rattle.whole_machine.specs.declared.state.Frame as code-Frame
+use Rattle.whole_machine.specs.declared.state.Frame as CodeFrame
 use Rattle.whole_machine.proofs.Standing.{nothing}
 
 abbrev begun : List Ring → Ring → List (List Ring) → List Frame → State
@@ -28,11 +28,11 @@ no_clips : clips_in [] ≡ []
 unfolding clips_in paths_in pieces pieces_by
 no_clips = refl
 
-first_frame : (fs : List code-Frame.Frame) (f : code-Frame.Frame) → 0 < length fs → map frame_of (reverse (take 1 (set fs 0 f))) ≡ frame_of f ∷ []
+first_frame : (fs : List CodeFrame.Frame) (f : CodeFrame.Frame) → 0 < length fs → map frame_of (reverse (take 1 (set fs 0 f))) ≡ frame_of f ∷ []
 first_frame [] f some = let no_such : ⊥ = omega arith in absurd no_such
 first_frame (x ∷ xs) f some = refl
 
-pub begins : (ws : List ℕ) (rs : List Ring) (r : Ring) (fs : List code-Frame.Frame) (f : code-Frame.Frame) → rs ≡ [] → r ≡ [] → 0 < length fs →
+pub begins : (ws : List ℕ) (rs : List Ring) (r : Ring) (fs : List CodeFrame.Frame) (f : CodeFrame.Frame) → rs ≡ [] → r ≡ [] → 0 < length fs →
     frame_of f ≡ record { rest = decode ws; again = 0; whole = decode [] } → begun rs r (clips_in []) (map frame_of (reverse (take 1 (set fs 0 f)))) ≡ begin (decode ws)
 begins ws rs r fs f a b some is =
     let one : Frame → List Frame = λ x. x ∷ [] in

@@ -15,8 +15,8 @@ use Rattle.whole_machine.specs.declared.event.Fault.{Fault}
 use Rattle.whole_machine.specs.declared.event.Fault.TheVariants.{StackUnderflow, WrongKind, OutOfRange, Undefined, NoCurrentPoint, NothingKept, LimitExceeded, StepsUsedUp}
 use Rattle.whole_machine.specs.declared.event.Event.{Event}
 use Rattle.whole_machine.specs.declared.event.Event.TheVariants.{On, Painted, Shown, Finished}
-use Rattle.whole_machine.specs.declared.state.Value as code-value
-use Rattle.whole_machine.specs.declared.state.Frame as code-Frame
+use Rattle.whole_machine.specs.declared.state.Value as code_value
+use Rattle.whole_machine.specs.declared.state.Frame as CodeFrame
 use Rattle.whole_machine.specs.declared.graphics.GraphicsState.{GraphicsState}
 use Rattle.whole_machine.specs.declared.state.Machine.{Machine}
 
@@ -31,12 +31,12 @@ fault_number NothingKept = 6
 fault_number LimitExceeded = 7
 fault_number StepsUsedUp = 8
 
-abbrev pub value_of : code-value.Value → Value
-value_of (code-value.TheVariants.Number n) = amount n
-value_of (code-value.TheVariants.Body b) = code (decode b.now)
-value_of (code-value.TheVariants.Label k) = label k
+abbrev pub value_of : code_value.Value → Value
+value_of (code_value.TheVariants.Number n) = amount n
+value_of (code_value.TheVariants.Body b) = code (decode b.now)
+value_of (code_value.TheVariants.Label k) = label k
 
-abbrev pub frame_of : code-Frame.Frame → Frame
+abbrev pub frame_of : CodeFrame.Frame → Frame
 frame_of f = record { rest = decode f.rest.now; again = f.again; whole = decode f.whole.now }
 
 abbrev pub graphics_of : List ℕ → GraphicsState → Manner
@@ -50,8 +50,8 @@ abbrev pub frames_of : Machine → List Frame
 frames_of m = map frame_of (reverse (take m.depth m.frames.now))
 
 -- what a name means by the row of meanings, and what the bound names mean, in the order in which they were first bound
-abbrev pub binding_of : List code-value.Value → ℕ → Binding
-binding_of vs k = record { called = k; means = value_of (slice_index_or vs k (code-value.TheVariants.Number 0)) }
+abbrev pub binding_of : List code_value.Value → ℕ → Binding
+binding_of vs k = record { called = k; means = value_of (slice_index_or vs k (code_value.TheVariants.Number 0)) }
 
 abbrev pub names_of : Machine → List Binding
 names_of m = map (binding_of m.meanings.now) (take m.names m.order.now)

@@ -1,8 +1,8 @@
 -- A word looked up among the operators, one after another.
-use Rattle.std.proofs.Common.{◌≡◌, ℕ, zero, suc, ◌+◌, ◌-◌, ◌<◌, ◌≤◌, Bool, true, false, cond, List, Some, None, Option, sym, refl, ap, ◌∙◌, add-one, arith}
+use Rattle.std.proofs.Common.{◌≡◌, ℕ, zero, suc, ◌+◌, ◌-◌, ◌<◌, cond, List, Some, None, Option, refl, ap, ◌∙◌, arith}
 use Rattle.tokens.specs.Token.{Operator}
 use Rattle.lexer.specs.Reading.{Found, operator, no_operator, same_word, as_operator}
-use Rattle.tokens.specs.Stored.{operator_at, operator_of, known}
+use Rattle.tokens.specs.Stored.{operator_at, known}
 use Rattle.words.specs.Spelling.{spelled, found_as}
 use Rattle.tokens.specs.declared.Operator as code
 

@@ -1,9 +1,9 @@
 -- What a lexeme means: the piece that it stands for, the token that it is, the names that are known after it, and whether it is within the limits. Cited by the contracts of the passes over a text. Assumes nothing: these are definitions.
-use Rattle.std.specs.Prelude.{◌≡◌, ℕ, ◌<◌, ◌≤◌, min, Bool, true, false, List, [], ◌∷◌, Some, None, Option, nat_lt}
+use Rattle.std.specs.Prelude.{◌≡◌, ℕ, ◌≤◌, min, Bool, true, false, List, Some, None, Option, nat_lt}
 use Rattle.std.specs.Borrow.{Bor}
 use Rattle.lexer.specs.declared.Lexeme.{Lexeme}
 use Rattle.lexer.specs.declared.Lexeme.TheVariants.{End, Open, Close, Number, Word, Quoted, Wrong}
-use Rattle.tokens.specs.declared.Token as code-token
+use Rattle.tokens.specs.declared.Token as code_token
 use Rattle.tokens.specs.Token.{Token, number, quoted}
 use Rattle.lexer.specs.Reading.{Piece, opens, closes, digits, word, slashed, wrong, as_operator, as_token, word_limit, words_after, place_of, with_word}
 use Rattle.tokens.specs.Stored.{token_of}
@@ -55,13 +55,13 @@ plain_names (slashed n w) ws = with_word ws w
 plain_names (wrong n) ws = ws
 
 -- what reading a word comes to: nothing where it is above a limit, else its token and how many names of the table are known then
-abbrev pub ReadAs : Bool → Token → List (List ℕ) → Option (code-token.Token × ℕ) → List (Bor (List ℕ)) → Type 0
+abbrev pub ReadAs : Bool → Token → List (List ℕ) → Option (code_token.Token × ℕ) → List (Bor (List ℕ)) → Type 0
 ReadAs within t ws None ms = within ≡ false
 ReadAs within t ws (Some p) ms = (within ≡ true) × (token_of p.0 ≡ t) × (p.1 ≤ 256) × (known_in ms p.1 ≡ ws)
 
-abbrev pub WordRead : Option (code-token.Token × ℕ) → List ℕ → List (Bor (List ℕ)) → ℕ → List (Bor (List ℕ)) → Type 0
+abbrev pub WordRead : Option (code_token.Token × ℕ) → List ℕ → List (Bor (List ℕ)) → ℕ → List (Bor (List ℕ)) → Type 0
 WordRead r w ns n ms = ReadAs (word_limit (as_operator w) stage (known_in ns n) w) (as_token (as_operator w) (known_in ns n) w) (words_after (as_operator w) (known_in ns n) w) r ms
 
 -- the same for every piece that a lexeme of a number or a word stands for
-abbrev pub PlainRead : Option (code-token.Token × ℕ) → Lexeme → List (Bor (List ℕ)) → ℕ → List (Bor (List ℕ)) → Type 0
+abbrev pub PlainRead : Option (code_token.Token × ℕ) → Lexeme → List (Bor (List ℕ)) → ℕ → List (Bor (List ℕ)) → Type 0
 PlainRead r x ns n ms = (q : Piece) → Stands x q → Plain q → ReadAs (plain_limit q (known_in ns n)) (plain_token q (known_in ns n)) (plain_names q (known_in ns n)) r ms

@@ -1,5 +1,5 @@
 -- The table of names that a text has used so far. Cited by the contracts of the passes over a text. Assumes nothing: these are definitions.
-use Rattle.std.specs.Prelude.{◌≡◌, ℕ, ◌<◌, ◌≤◌, Bool, false, List, map, length, take, Some, None, Option, nat_lt}
+use Rattle.std.specs.Prelude.{◌≡◌, ℕ, ◌<◌, ◌≤◌, false, List, map, take, Some, None, Option, nat_lt}
 use Rattle.std.specs.Borrow.{Bor}
 use Rattle.lexer.specs.Reading.{place_of, with_word}
 

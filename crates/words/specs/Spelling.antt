@@ -1,8 +1,8 @@
 -- How operators are spelled, and what the code answers of a word. Cited by the contracts of operators. Assumes nothing: these are definitions.
-use Rattle.std.specs.Prelude.{ℕ, zero, suc, Bool, cond, ◌&&◌, ◌||◌, List, [], ◌∷◌, Some, None, Option, ◌==◌}
+use Rattle.std.specs.Prelude.{ℕ, cond, List, [], ◌∷◌, Some, None, Option, ◌==◌}
 use Rattle.tokens.specs.declared.Operator as code
-use Rattle.lexer.specs.Reading.{Found, operator, no_operator, same_word}
-use Rattle.tokens.specs.Stored.{operator_of, operator_at}
+use Rattle.lexer.specs.Reading.{Found, operator, no_operator}
+use Rattle.tokens.specs.Stored.{operator_of}
 
 -- the code's answer to which operator a word is
 abbrev pub found_as : Option code.Operator → Found

@@ -7,6 +7,8 @@
 // The table is lent by the caller, references into the text:
 //
 //   names: | known ......... | as it was .. |    256 places, the first `known` are used
+#![tactic(auto)]
+
 pub mod meaning;
 pub mod names;
 pub mod operators;

@@ -1,6 +1,6 @@
-use Rattle.std.proofs.Common.{◌≡◌, true, false, get_or, sym, refl, ap, ◌∙◌, arith}
+use Rattle.std.proofs.Common.{◌≡◌, true, false, get_or, sym, refl, ◌∙◌, arith}
 use Rattle.std.proofs.lemmas.Bool.Decides.{nat_tests}
-use Rattle.lexer.specs.Reading.{between, is_space, is_digit, is_letter, is_brace, may_begin, braces, finished}
+use Rattle.lexer.specs.Reading.{between, is_digit, is_letter, is_brace, may_begin, finished}
 use Rattle.lexer.proofs.Scanning.{at_end}
 use Rattle.lexer.proofs.Lexemes.{brace_is, wrong_is, wrong_first}
 use Rattle.lexer.proofs.lexeme_at.Goals as goal

@@ -1,4 +1,4 @@
-use Rattle.std.proofs.Common.{◌≡◌, ℕ, ◌+◌, ◌<◌, sym, refl, ap, ◌∙◌, arith}
+use Rattle.std.proofs.Common.{sym, refl, ap, ◌∙◌, arith}
 use Rattle.lexer.specs.Reading.{a_number, is_digit, goes_on, finished, is_between, cannot_read}
 use Rattle.lexer.proofs.Lexemes.{passed, number_begins, closed, stuck}
 use Rattle.lexer.proofs.number_at.Goals as goal

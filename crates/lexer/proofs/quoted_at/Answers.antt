@@ -1,6 +1,5 @@
-use Rattle.std.proofs.Common.{◌≡◌, ℕ, ◌+◌, ◌-◌, ◌<◌, ◌≤◌, false, cond, eqb, leb, List, [], ◌∷◌, length, take, drop, sym, refl, ap, ◌∙◌, arith}
-use Rattle.std.proofs.lemmas.Bool.Decides.{nat_tests}
-use Rattle.lexer.specs.Reading.{a_quoted, slashed, wrong, goes_on, finished, is_between, cannot_read}
+use Rattle.std.proofs.Common.{◌+◌, ◌-◌, ◌≤◌, length, take, drop, sym, refl, arith}
+use Rattle.lexer.specs.Reading.{a_quoted, slashed, goes_on, is_between, cannot_read}
 use Rattle.lexer.proofs.Lexemes.{quoted_run, quoted_finished, quoted_empty, letters_are, letters_long, letters_stuck}
 use Rattle.lexer.proofs.quoted_at.Goals as goal
 

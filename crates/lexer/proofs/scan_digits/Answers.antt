@@ -1,4 +1,4 @@
-use Rattle.std.proofs.Common.{◌≡◌, ℕ, ◌+◌, ◌-◌, ◌*◌, get_or, sym, ◌∙◌, arith}
+use Rattle.std.proofs.Common.{ℕ, ◌+◌, ◌-◌, ◌*◌, get_or, sym, ◌∙◌, arith}
 use Rattle.lexer.proofs.Scanning.{number_goes, capped_more}
 use Rattle.lexer.proofs.scan_digits.Goals as goal
 

@@ -1,4 +1,4 @@
-use Rattle.std.proofs.Common.{◌≡◌, ℕ, ◌-◌, take, drop, sym, refl, arith}
+use Rattle.std.proofs.Common.{◌-◌, take, drop, sym, refl, arith}
 use Rattle.lexer.specs.Reading.{a_word, word, is_letter, goes_on, finished, is_between, cannot_read}
 use Rattle.lexer.proofs.Lexemes.{passed, word_run, letters_are, letters_long, letters_stuck}
 use Rattle.lexer.proofs.word_at.Goals as goal

@@ -1,9 +1,8 @@
 use Rattle.std.proofs.Common.{◌≡◌, ℕ, ◌-◌, ◌%◌, ◌≤◌, false, eqb, List, length, get_or, take, drop, sym, refl, ap, ◌∙◌, arith}
 use Rattle.std.proofs.lemmas.Bool.{ne_eqb}
 use Rattle.std.proofs.lemmas.Slice.{between_to_end}
-use Rattle.tokens.specs.declared.Token as code-token
 use Rattle.tokens.specs.Token.{number, does, name, quoted}
-use Rattle.tokens.specs.Stored.{Head, plain, nested, operator_of, by_kind, operator_head, head_of, head_with}
+use Rattle.tokens.specs.Stored.{Head, plain, nested, operator_of, by_kind, operator_head, head_of}
 use Rattle.tokens.proofs.Decoding.{head_short, head_long, next_over, next_is}
 use Rattle.tokens.proofs.next_token.Goals as goal
 

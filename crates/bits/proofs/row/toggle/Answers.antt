@@ -1,4 +1,4 @@
-use Rattle.std.proofs.Common.{◌≡◌, ◌*◌, ◌/◌, ◌%◌, ◌^◌, ◌<◌, min, max, length, get_or, set, sym, ap, ◌∙◌, arith}
+use Rattle.std.proofs.Common.{◌≡◌, ◌*◌, ◌/◌, ◌%◌, ◌^◌, ◌<◌, length, get_or, set, sym, ap, ◌∙◌, arith}
 use lib.Bits.{bit_xor}
 use Rattle.std.proofs.lemmas.Nat.{one_shl, mod_below, div_below}
 use Rattle.bits.specs.Row.{bit_at}

@@ -1,7 +1,7 @@
 use Rattle.std.proofs.Common.{◌≡◌, ℕ, List, [], ◌∷◌, sym, refl, ap, ◌∙◌, Bor}
 use Rattle.machine.specs.Machine.{State, push, call}
 use Rattle.whole_machine.specs.Abstraction.{state, value_of}
-use Rattle.whole_machine.specs.declared.state.Value as code-value
+use Rattle.whole_machine.specs.declared.state.Value as code_value
 use Rattle.operators.proofs.calling.call_name.Goals as goal
 
 pub returns-in-default : goal.returns-in-default
@@ -16,11 +16,11 @@ returns-in-Body c =
     c.enter.ensures p t ∙ sym (ap (call s) c.in-Some.ensures ∙ ap (λ v. call s (value_of v ∷ [])) c.in-Body.is)
 
 -- what is no body is put on the stack
-pushed : (v : code-value.Value) (s : State) → ((b : Bor (List ℕ)) → v ≡ code-value.TheVariants.Body b → ⊥) → push s s.stack (value_of v) ≡ call s (value_of v ∷ [])
+pushed : (v : code_value.Value) (s : State) → ((b : Bor (List ℕ)) → v ≡ code_value.TheVariants.Body b → ⊥) → push s s.stack (value_of v) ≡ call s (value_of v ∷ [])
 unfolding call
-pushed (code-value.TheVariants.Number n) s other = refl
-pushed (code-value.TheVariants.Body b) s other = absurd (other b refl)
-pushed (code-value.TheVariants.Label k) s other = refl
+pushed (code_value.TheVariants.Number n) s other = refl
+pushed (code_value.TheVariants.Body b) s other = absurd (other b refl)
+pushed (code_value.TheVariants.Label k) s other = refl
 
 pub returns-in-default-v : goal.returns-in-default-v
 returns-in-default-v c =

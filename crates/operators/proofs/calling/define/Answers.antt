@@ -1,7 +1,7 @@
 use Rattle.std.proofs.Common.{◌≡◌, ℕ, List, [], ◌∷◌, drop, sym, refl, ap, ◌∙◌}
 use Rattle.machine.specs.Machine.{State, Value, ends, on, with_stack, with_names, label, rebound, bind, operate}
 use Rattle.whole_machine.specs.Abstraction.{state, stack_of, value_of}
-use Rattle.whole_machine.specs.declared.state.Value as code-value
+use Rattle.whole_machine.specs.declared.state.Value as code_value
 use Rattle.operators.proofs.calling.define.Goals as goal
 
 pub returns-in-default : goal.returns-in-default
@@ -17,11 +17,11 @@ returns-in-default-operand-at c =
     sym (ap (bind s) c.in-Some.ensures ∙ ap (λ vs. bind s (v ∷ vs)) c.in-default-operand-at.ensures)
 
 -- under a value a quoted name is wanted
-wrong_kind : (l : code-value.Value) (s : State) (v : Value) (vs : List Value) → ((k : ℕ) → l ≡ code-value.TheVariants.Label k → ⊥) → bind s (v ∷ (value_of l ∷ vs)) ≡ ends 2 s
+wrong_kind : (l : code_value.Value) (s : State) (v : Value) (vs : List Value) → ((k : ℕ) → l ≡ code_value.TheVariants.Label k → ⊥) → bind s (v ∷ (value_of l ∷ vs)) ≡ ends 2 s
 unfolding bind
-wrong_kind (code-value.TheVariants.Number n) s v vs other = refl
-wrong_kind (code-value.TheVariants.Body b) s v vs other = refl
-wrong_kind (code-value.TheVariants.Label k) s v vs other = absurd (other k refl)
+wrong_kind (code_value.TheVariants.Number n) s v vs other = refl
+wrong_kind (code_value.TheVariants.Body b) s v vs other = refl
+wrong_kind (code_value.TheVariants.Label k) s v vs other = absurd (other k refl)
 
 pub returns-in-default-label : goal.returns-in-default-label
 unfolding operate

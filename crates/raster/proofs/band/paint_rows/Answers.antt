@@ -1,4 +1,4 @@
-use Rattle.std.proofs.Common.{◌+◌, ◌-◌, ◌/◌, arith}
+use Rattle.std.proofs.Common.{◌+◌, ◌/◌, arith}
 use Rattle.raster.proofs.BandLaws.{zeros_empty, zeros_length}
 use Rattle.raster.proofs.band.paint_rows.Goals as goal
 

@@ -1,4 +1,4 @@
-use Rattle.std.proofs.Common.{◌≡◌, ℕ, ◌+◌, ◌-◌, true, false, cond, ◌∷◌, sym, refl, ap, ◌∙◌, subst, arith}
+use Rattle.std.proofs.Common.{◌≡◌, ◌+◌, ◌-◌, true, false, ◌∷◌, sym, ap, ◌∙◌, subst, arith}
 use Rattle.lexer.specs.Reading.{opens, closes, at, above_limit}
 use Rattle.tokens.specs.Stage.{stage}
 use Rattle.words.specs.Naming.{known_in}

@@ -1,4 +1,4 @@
-use Rattle.std.proofs.Common.{◌≡◌, true, false, ltb, [], length, Err, sym, refl, ap, ◌∙◌, subst}
+use Rattle.std.proofs.Common.{◌≡◌, true, false, ltb, [], length, Err, sym, refl, subst}
 use Rattle.text.specs.declared.refusal.Refusal.TheVariants.{Unreadable, TooLarge}
 use Rattle.lexer.specs.Reading.{cannot_read, above_limit, build, read, fine, at}
 use Rattle.lexer.specs.Lexing.{from}

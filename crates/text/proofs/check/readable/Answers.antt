@@ -1,6 +1,6 @@
-use Rattle.std.proofs.Common.{◌≡◌, ◌+◌, ◌-◌, length, sym, ap, ◌∙◌, subst, inl, inr, arith}
+use Rattle.std.proofs.Common.{◌≡◌, length, sym, ap, ◌∙◌, subst, inl, inr, arith}
 use Rattle.text.specs.declared.refusal.Refusal.TheVariants.{Unreadable}
-use Rattle.lexer.specs.Reading.{cannot_read, at}
+use Rattle.lexer.specs.Reading.{cannot_read}
 use Rattle.lexer.specs.Lexing.{from, Saw}
 use Rattle.text.specs.Refusing.{passed_with}
 use Rattle.text.proofs.Passing.{Plain, past_number, past_word, past_quoted, past_open, past_close, closes_nothing, ends_closed, ends_open}

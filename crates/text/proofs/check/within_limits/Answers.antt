@@ -1,6 +1,6 @@
-use Rattle.std.proofs.Common.{◌≡◌, ℕ, ◌+◌, ◌≤◌, [], ◌∷◌, length, Ok, sym, refl, ap, ◌∙◌, subst, arith}
+use Rattle.std.proofs.Common.{◌≡◌, length, Ok, sym, ap, ◌∙◌, arith}
 use Rattle.text.specs.declared.refusal.Refusal.TheVariants.{TooLarge}
-use Rattle.lexer.specs.Reading.{above_limit, fine}
+use Rattle.lexer.specs.Reading.{above_limit}
 use Rattle.lexer.specs.Lexing.{from}
 use Rattle.text.specs.Limits.{limits}
 use Rattle.text.specs.Refusing.{passed_with}

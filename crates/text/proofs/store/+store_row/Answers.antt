@@ -1,12 +1,11 @@
-use Rattle.std.proofs.Common.{◌≡◌, ℕ, ◌+◌, ◌-◌, ◌<◌, ◌≤◌, List, [], ◌∷◌, length, set, sym, refl, ap, ◌∙◌, subst, inl, inr, arith}
-use Rattle.lexer.specs.Reading.{Piece, opens, closes}
+use Rattle.std.proofs.Common.{◌≡◌, ℕ, ◌+◌, ◌-◌, List, [], ◌∷◌, length, sym, ap, ◌∙◌, subst, inl, inr, arith}
+use Rattle.lexer.specs.Reading.{Piece}
 use Rattle.lexer.specs.Lexing.{from, Saw}
 use Rattle.words.specs.Naming.{known_in}
-use Rattle.words.specs.Meaning.{plain_limit}
 use Rattle.tokens.specs.Stored.{token_of}
-use Rattle.text.specs.Storing.{begun_with, Ready, StoredRow}
+use Rattle.text.specs.Storing.{Ready, StoredRow}
 use Rattle.lexer.proofs.Faults.{not_fine}
-use Rattle.text.proofs.Limiting.{Next, next_piece, placed, plain_of}
+use Rattle.text.proofs.Limiting.{next_piece, placed, plain_of}
 use Rattle.text.proofs.Storing.{Part, part_none, part_plain, part_body, part_close, part_end, ready_open, ready_plain, two_words}
 use Rattle.text.proofs.store.+store_row.Goals as goal
 

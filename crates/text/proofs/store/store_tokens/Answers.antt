@@ -1,4 +1,4 @@
-use Rattle.std.proofs.Common.{◌≡◌, ◌*◌, ◌≤◌, length, Ok, sym, refl, ap, subst, arith}
+use Rattle.std.proofs.Common.{Ok, sym, refl, subst, arith}
 use Rattle.text.specs.Storing.{StoredAs}
 use Rattle.text.proofs.Judging.{accepted}
 use Rattle.text.proofs.store.store_tokens.Goals as goal

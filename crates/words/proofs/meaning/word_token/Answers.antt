@@ -1,7 +1,7 @@
-use Rattle.std.proofs.Common.{◌≡◌, sym, refl, ap, ◌∙◌, arith}
+use Rattle.std.proofs.Common.{sym, ap, ◌∙◌, arith}
 use Rattle.std.proofs.lemmas.Bool.{lt-ltb}
 use Rattle.tokens.specs.Token.{name}
-use Rattle.lexer.specs.Reading.{as_operator, as_token, word_limit, words_after, place_of}
+use Rattle.lexer.specs.Reading.{as_token, word_limit, words_after}
 use Rattle.words.specs.Naming.{known_in}
 use Rattle.tokens.specs.Stage.{stage}
 use Rattle.words.proofs.meaning.word_token.Goals as goal

@@ -1,4 +1,4 @@
-use Rattle.std.proofs.Common.{◌≡◌, ◌-◌, ap, ◌∙◌, arith}
+use Rattle.std.proofs.Common.{◌≡◌, ap, ◌∙◌, arith}
 use Rattle.lexer.specs.Reading.{place_of}
 use Rattle.words.specs.Naming.{known_in}
 use Rattle.words.proofs.Naming.{entered_known, entered_new}

@@ -1,4 +1,4 @@
-use Rattle.std.proofs.Common.{◌≡◌, ℕ, ◌-◌, true, false, sym, ap, ◌∙◌, arith}
+use Rattle.std.proofs.Common.{◌≡◌, ◌-◌, true, false, sym, ap, ◌∙◌, arith}
 use Rattle.lexer.specs.Reading.{same_word}
 use Rattle.words.specs.Spelling.{spelled}
 use Rattle.words.proofs.Spelling.{named_from, found_at, all_named, named_more, found_known}

@@ -2,7 +2,7 @@ use Rattle.std.proofs.Common.{◌≡◌, ℕ, ◌+◌, List, ◌∷◌, drop, re
 use Rattle.std.proofs.lemmas.List.{drop_all}
 use Rattle.machine.specs.Machine.{State, Value, ends, with_one}
 use Rattle.machine.specs.Abstraction.{OneOperand, stack_of, value_of}
-use Rattle.machine.specs.declared.machine.Value as code-value
+use Rattle.machine.specs.declared.machine.Value as code_value
 use Rattle.machine.proofs.Tops.{length-tops, tops_at}
 use Rattle.machine.proofs.machine.Machine.number_at.Goals as goal
 
@@ -21,11 +21,11 @@ returns-in-Number c =
     λ s f. ap (λ vs. with_one s vs f) (tops_at value_of m.values.now m.height c.args.below _ (omega arith) (omega arith)) ∙ ap (λ v. with_one s (value_of v ∷ rest) f) c.in-Number.is
 
 -- what is no number is of the wrong kind
-wrong_kind : (v : code-value.Value) (s : State) (vs : List Value) (f : OneOperand) → ((n : ℕ) → v ≡ code-value.TheVariants.Number n → ⊥) → with_one s (value_of v ∷ vs) f ≡ ends 2 s
+wrong_kind : (v : code_value.Value) (s : State) (vs : List Value) (f : OneOperand) → ((n : ℕ) → v ≡ code_value.TheVariants.Number n → ⊥) → with_one s (value_of v ∷ vs) f ≡ ends 2 s
 unfolding with_one
-wrong_kind (code-value.TheVariants.Number n) s vs f other = absurd (other n refl)
-wrong_kind (code-value.TheVariants.Body b) s vs f other = refl
-wrong_kind (code-value.TheVariants.Label k) s vs f other = refl
+wrong_kind (code_value.TheVariants.Number n) s vs f other = absurd (other n refl)
+wrong_kind (code_value.TheVariants.Body b) s vs f other = refl
+wrong_kind (code_value.TheVariants.Label k) s vs f other = refl
 
 pub returns-in_default : goal.returns-in_default
 returns-in_default c =

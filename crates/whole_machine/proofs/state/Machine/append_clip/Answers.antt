@@ -11,7 +11,7 @@ use Rattle.whole_machine.specs.Abstraction.{Past, state, with_clip}
 use Rattle.whole_machine.specs.declared.state.Machine.{Machine}
 use Rattle.whole_machine.proofs.ClipLaws.{copied_more, copied_all, whole_more, clips_more, weighs_more, points_finished}
 use Rattle.whole_machine.proofs.KeepLaws.{kept_clipped}
-use Rattle.whole_machine.proofs.Invariants.{Kept, kept_of, before_kept}
+use Rattle.whole_machine.proofs.Invariants.{fields, Kept, kept_of, before_kept}
 use Rattle.whole_machine.proofs.state.Machine.append_clip.Goals as goal
 
 -- the words of a path are as many as they were said to be
@@ -22,8 +22,8 @@ pub loop-i-preserved : goal.loop-i-preserved
 loop-i-preserved c =
     let m = c.args.self.now in
     let inv = c.loop-i.invariant in
-    let after = c.set-spare-in-loop-i.ensures in
-    let same = ap (λ g. g.clips) (inv.1 ∙ c.set-spare.ensures.graphics) in
+    let after = c.set_spare-in-loop-i.ensures in
+    let same = ap (λ g. g.clips) (inv.1 ∙ c.set_spare.ensures.graphics) in
     let n = many c.args.path.now c.front-words.result.now c.used-n.result c.front-words.ensures c.used-n.ensures.len in
     let l = m.lights in
     let short = c.used-n.ensures.short in
@@ -68,17 +68,17 @@ module _ (m counted after : Machine) (p : Path) (us : List ℕ) (n i : ℕ) (fro
       ap (with_clips (state after q t)) (clips_more m.clips.now after.clips.now us m.graphics.clips (m.graphics.clips + 1 + n) is m.front ∙ ap (λ x. x ∷ old) path_is)
       ∙ ap (λ s. with_clips s (finished (rings_of p) (ring_of p) ∷ old)) e
 
-pub invariant-of-self : goal.invariant-of-self
-invariant-of-self c =
+pub invariant_of-self : goal.invariant_of-self
+invariant_of-self c =
     let m = c.args.self.now in
     let after = c.loop-i.self in
     let inv = c.loop-i.invariant in
     let used = c.used-n.ensures in
     let few = c.points-points.ensures in
     let l = m.lights in
-    let k = clipped m c.set-spare.new.self after c.args.path.now c.front-words.result.now c.used-n.result c.loop-i.i c.front-words.ensures used.len used.value used.short (omega arith) c.set-spare.ensures.words
-    inv.2 (omega arith) (inv.1 ∙ c.set-spare.ensures.graphics) in
-    (after.upright, (after.room, before_kept after (subst (λ x. Kept (m.graphics.clips + 1 + c.used-n.result) (after.graphics.weight + (1 + x)) after.kept.now after.saves after.clips.now) (sym few) k)))
+    let k = clipped m c.set_spare.new.self after c.args.path.now c.front-words.result.now c.used-n.result c.loop-i.i c.front-words.ensures used.len used.value used.short (omega arith) c.set_spare.ensures.words
+    inv.2 (omega arith) (inv.1 ∙ c.set_spare.ensures.graphics) in
+    fields _ _ _ _ _ _ _ _ _ _ _ _ _ (after.upright, (after.room, before_kept after (subst (λ x. Kept (m.graphics.clips + 1 + c.used-n.result) (after.graphics.weight + (1 + x)) after.kept.now after.saves after.clips.now) (sym few) k)))
 
 -- what the clips in force and one more count for
 total : (m : Machine) (p : Path) → 1 + points (finished (rings_of p) (ring_of p)) + (points_in_all (clips_in (take m.graphics.clips m.clips.now)) + length (clips_in (take m.graphics.clips m.clips.now))) ≡ 1 + points_of p + m.graphics.weight
@@ -104,6 +104,6 @@ returns c =
     record {
       value = sym (le-leb _ 1024 (omega arith));
       after = λ p t.
-          one_more m c.set-spare.new.self c.loop-i.self c.args.path.now c.front-words.result.now c.used-n.result c.loop-i.i c.front-words.ensures used.len used.value used.short (omega arith) c.set-spare.ensures.words
-          inv.2 (omega arith) (inv.1 ∙ c.set-spare.ensures.graphics) p t (inv.0 p t ∙ c.set-spare.ensures.same p t);
+          one_more m c.set_spare.new.self c.loop-i.self c.args.path.now c.front-words.result.now c.used-n.result c.loop-i.i c.front-words.ensures used.len used.value used.short (omega arith) c.set_spare.ensures.words
+          inv.2 (omega arith) (inv.1 ∙ c.set_spare.ensures.graphics) p t (inv.0 p t ∙ c.set_spare.ensures.same p t);
     }

@@ -3,7 +3,7 @@ use Rattle.std.proofs.lemmas.List.{get_or-set_same, get_or-set_other, take-set, 
 use Rattle.whole_machine.specs.Names.{listed, distinct}
 use Rattle.whole_machine.specs.Abstraction.{state, binding_of, value_of}
 use Rattle.whole_machine.specs.declared.state.Machine.{Machine}
-use Rattle.whole_machine.proofs.Invariants.{kept_of}
+use Rattle.whole_machine.proofs.Invariants.{fields, kept_of}
 use Rattle.whole_machine.proofs.NameLaws.{unset_less, distinct_more, known_more, rebound_listed, rebound_more}
 use Rattle.whole_machine.proofs.Standing.{same_names}
 use Rattle.whole_machine.proofs.state.Machine.bind.Goals as goal
@@ -26,55 +26,29 @@ free m k lt e = let n = unset_less m.bound.now k (rw m.flags lt) e in let c = m.
 pub bounds-self-self : goal.bounds-self-self
 bounds-self-self c = let h = free c.args.self.now c.args.name (omega arith) c.if-self-k.false in let l = c.args.self.now.ordered in omega arith
 
-pub invariant-of-self : goal.invariant-of-self
-invariant-of-self c =
+pub invariant_of-self : goal.invariant_of-self
+invariant_of-self c =
     let m = c.args.self.now in
-    (m.upright, (m.room, (m.within, (m.nests, (length-set m.meanings.now c.args.name c.args.v ∙ m.meant, (m.flags, (m.ordered, (m.counted, (m.once, (m.known, kept_of m))))))))))
+    fields _ _ _ _ _ _ _ _ _ _ _ _ _ (m.upright, (m.room, (m.within, (m.nests, (length-set m.meanings.now c.args.name c.args.v ∙ m.meant, (m.flags, (m.ordered, (m.counted, (m.once, (m.known, kept_of m))))))))))
 
 -- a name behind those that are bound is not bound yet
-pub invariant-of-self-2 : goal.invariant-of-self-2
-invariant-of-self-2 c =
+pub invariant_of-self-2 : goal.invariant_of-self-2
+invariant_of-self-2 c =
     let m = c.args.self.now in
     let k = c.args.name in
     let same = take-set m.order.now m.names k in
-    (m.upright, (m.room, (m.within, (m.nests, (length-set m.meanings.now k c.args.v ∙ m.meant, (m.flags, (length-set m.order.now m.names k ∙ m.ordered, (m.counted, (ap distinct same ∙ m.once, (λ j lt. m.known j lt ∙ sym (ap (listed j) same), kept_of m))))))))))
+    fields _ _ _ _ _ _ _ _ _ _ _ _ _ (m.upright, (m.room, (m.within, (m.nests, (length-set m.meanings.now k c.args.v ∙ m.meant, (m.flags, (length-set m.order.now m.names k ∙ m.ordered, (m.counted, (ap distinct same ∙ m.once, (λ j lt. m.known j lt ∙ sym (ap (listed j) same), kept_of m))))))))))
 
-pub invariant-of-self-3 : goal.invariant-of-self-3
-invariant-of-self-3 c =
+pub invariant_of-self-3 : goal.invariant_of-self-3
+invariant_of-self-3 c =
     let m = c.args.self.now in
     let k = c.args.name in
     let ns = take m.names m.order.now in
     let off = c.if-self-k.false in
     let h = free m k (omega arith) off in
     let more = take_more_set m.order.now m.names k (omega arith) in
-    let fewer = unset_less m.bound.now k (omega arith) off in (
-      m.upright,
-      (
-        m.room,
-        (
-          m.within,
-          (
-            m.nests,
-            (
-              length-set m.meanings.now k c.args.v ∙ m.meant,
-              (
-                length-set m.bound.now k true ∙ m.flags,
-                (
-                  length-set m.order.now m.names k ∙ m.ordered,
-                  (
-                    omega (arith, m.counted),
-                    (
-                      ap distinct more ∙ distinct_more k ns m.once (sym (m.known k (omega arith)) ∙ off),
-                      (λ j lt. known_more m.bound.now ns k (omega arith) m.flags m.known j lt ∙ sym (ap (listed j) more), kept_of m),
-                    ),
-                  ),
-                ),
-              ),
-            ),
-          ),
-        ),
-      ),
-    )
+    let fewer = unset_less m.bound.now k (omega arith) off in
+    fields _ _ _ _ _ _ _ _ _ _ _ _ _ (m.upright, (m.room, (m.within, (m.nests, (length-set m.meanings.now k c.args.v ∙ m.meant, (length-set m.bound.now k true ∙ m.flags, (length-set m.order.now m.names k ∙ m.ordered, (omega (arith, m.counted), (ap distinct more ∙ distinct_more k ns m.once (sym (m.known k (omega arith)) ∙ off), (λ j lt. known_more m.bound.now ns k (omega arith) m.flags m.known j lt ∙ sym (ap (listed j) more), kept_of m))))))))))
 
 pub returns : goal.returns
 returns c =

@@ -1,4 +1,4 @@
-use Rattle.whole_machine.proofs.Invariants.{framed_of}
+use Rattle.whole_machine.proofs.Invariants.{fields, framed_of}
 use Rattle.std.proofs.Common.{map, reverse, take, ap, ◌∙◌, arith}
 use Rattle.whole_machine.specs.Abstraction.{state, value_of}
 use Rattle.whole_machine.proofs.Tops.{tops_drop}
@@ -9,7 +9,7 @@ pub returns : goal.returns
 returns c =
     let m = c.args.self.now in
     let xs = m.values.now in
-    λ p t. same_stack (state m p t) (ap (λ k. map value_of (reverse (take k xs))) c.saturating-sub-self.ensures ∙ tops_drop value_of xs m.height c.args.n (omega arith))
+    λ p t. same_stack (state m p t) (ap (λ k. map value_of (reverse (take k xs))) c.saturating_sub-self.ensures ∙ tops_drop value_of xs m.height c.args.n (omega arith))
 
-pub invariant-of-self : goal.invariant-of-self
-invariant-of-self c = let m = c.args.self.now in (omega arith, (m.room, framed_of m))
+pub invariant_of-self : goal.invariant_of-self
+invariant_of-self c = let m = c.args.self.now in fields _ _ _ _ _ _ _ _ _ _ _ _ _ (omega arith, (m.room, framed_of m))

@@ -3,12 +3,12 @@ use Rattle.std.proofs.lemmas.Bool.{cond-false, ne_eqb}
 use Rattle.machine.specs.Machine.{State, at_end}
 use Rattle.machine.specs.Laws.{end_of}
 use Rattle.whole_machine.specs.Abstraction.{frame_of}
-use Rattle.whole_machine.specs.declared.state.Frame as code-Frame
+use Rattle.whole_machine.specs.declared.state.Frame as CodeFrame
 use Rattle.whole_machine.proofs.Tops.{tops_pop}
 use Rattle.whole_machine.proofs.state.Machine.is_finished.Goals as goal
 
 -- with a frame left a job ends with 8
-left : (fs : List code-Frame.Frame) (d : ℕ) (s : State) → d ≤ length fs → end_of (at_end (map frame_of (reverse (take d fs))) s) ≡ cond (eqb d 0) 0 8
+left : (fs : List CodeFrame.Frame) (d : ℕ) (s : State) → d ≤ length fs → end_of (at_end (map frame_of (reverse (take d fs))) s) ≡ cond (eqb d 0) 0 8
 unfolding end_of at_end
 left fs zero s h = refl
 left [] (suc d) s h = let none-such : ⊥ = omega arith in absurd none-such

@@ -3,7 +3,7 @@ use Rattle.std.proofs.lemmas.Bool.{cond-true, cond-false, lt-ltb, le-ltb}
 use Rattle.machine.specs.Machine.{Went, on, with_manner, operate}
 use Rattle.whole_machine.specs.Abstraction.{state, graphics_of, saved_of}
 use Rattle.whole_machine.proofs.Tops.{length-tops, tops_push}
-use Rattle.whole_machine.proofs.Invariants.{kept_of, before_kept}
+use Rattle.whole_machine.proofs.Invariants.{fields, kept_of, before_kept}
 use Rattle.whole_machine.proofs.KeepLaws.{kept_more}
 use Rattle.whole_machine.proofs.state.Machine.keep.Goals as goal
 
@@ -14,8 +14,8 @@ returns-then-self-ge-MOST c =
     let l = length-tops (graphics_of m.clips.now) m.kept.now m.saves m.stored in
     λ p t. sym (cond-false _ _ _ (le-ltb (length (saved_of m)) 16 (omega arith)))
 
-pub invariant-of-self : goal.invariant-of-self
-invariant-of-self c = let m = c.args.self.now in (m.upright, (m.room, before_kept m (kept_more m.graphics m.kept.now m.saves m.clips.now (omega arith) (kept_of m))))
+pub invariant_of-self : goal.invariant_of-self
+invariant_of-self c = let m = c.args.self.now in fields _ _ _ _ _ _ _ _ _ _ _ _ _ (m.upright, (m.room, before_kept m (kept_more m.graphics m.kept.now m.saves m.clips.now (omega arith) (kept_of m))))
 
 pub returns : goal.returns
 unfolding operate

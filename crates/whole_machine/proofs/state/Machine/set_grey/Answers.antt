@@ -1,5 +1,5 @@
-use Rattle.whole_machine.proofs.Invariants.{framed_of}
+use Rattle.whole_machine.proofs.Invariants.{fields, framed_of}
 use Rattle.whole_machine.proofs.state.Machine.set_grey.Goals as goal
 
-pub invariant-of-self : goal.invariant-of-self
-invariant-of-self c = let m = c.args.self.now in (tt, (m.upright, (m.room, framed_of m)))
+pub invariant_of-self : goal.invariant_of-self
+invariant_of-self c = let m = c.args.self.now in fields _ _ _ _ _ _ _ _ _ _ _ _ _ (m.upright, (m.room, framed_of m))

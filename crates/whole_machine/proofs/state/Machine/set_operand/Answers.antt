@@ -1,5 +1,5 @@
 use Rattle.std.proofs.Common.{sym, arith, length-set}
-use Rattle.whole_machine.proofs.Invariants.{framed_of}
+use Rattle.whole_machine.proofs.Invariants.{fields, framed_of}
 use Rattle.std.proofs.lemmas.List.{set_past}
 use Rattle.whole_machine.specs.Abstraction.{state, stack_of, value_of}
 use Rattle.whole_machine.proofs.Tops.{length-tops, tops_put}
@@ -15,5 +15,5 @@ returns-then-below-self c =
 pub returns : goal.returns
 returns c = let m = c.args.self.now in λ p t. same_stack (state m p t) (tops_put value_of m.values.now m.height c.args.below c.args.v (omega arith) (omega arith))
 
-pub invariant-of-self : goal.invariant-of-self
-invariant-of-self c = let m = c.args.self.now in (simp length-set m.upright, (simp length-set m.room, framed_of m))
+pub invariant_of-self : goal.invariant_of-self
+invariant_of-self c = let m = c.args.self.now in fields _ _ _ _ _ _ _ _ _ _ _ _ _ (simp length-set m.upright, (simp length-set m.room, framed_of m))

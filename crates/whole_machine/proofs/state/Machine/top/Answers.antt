@@ -6,8 +6,8 @@ use Rattle.whole_machine.proofs.state.Machine.top.Goals as goal
 pub bounds-self-self : goal.bounds-self-self
 bounds-self-self c = omega arith
 
-pub offset-bounds-self-self : goal.offset-bounds-self-self
-offset-bounds-self-self c = omega arith
+pub offset_bounds-self-self : goal.offset_bounds-self-self
+offset_bounds-self-self c = omega arith
 
 pub returns-then-self-eq0 : goal.returns-then-self-eq0
 returns-then-self-eq0 c = ap (λ d. map frame_of (reverse (take d c.args.self.now.frames.now))) c.if-self-eq0.true

@@ -4,24 +4,24 @@ use Rattle.machine.specs.Machine.{with_one, with_two}
 use Rattle.whole_machine.specs.Abstraction.{state, stack_of, with_numbers}
 use Rattle.whole_machine.proofs.state.Machine.two_numbers.Goals as goal
 
-pub returns-in-err-b : goal.returns-in-err-b
+pub returns-in_err-b : goal.returns-in_err-b
 unfolding with_two
-returns-in-err-b c =
+returns-in_err-b c =
     let m = c.args.self.now in
-    let q = err_from_is_err_and c.from-residual.result c.from-residual.ensures.1 in
+    let q = err_from_is_err_and c.from_residual.result c.from_residual.ensures.1 in
     λ p t f.
     let s = state m p t in
-    c.in-err-b.ensures s (λ b vs. with_one s vs (λ a us. f a b us)) ∙ sym (ap (λ r. with_numbers r s (drop 2 (stack_of m)) f) (q.1 ∙ ap Err q.2))
+    c.in_err-b.ensures s (λ b vs. with_one s vs (λ a us. f a b us)) ∙ sym (ap (λ r. with_numbers r s (drop 2 (stack_of m)) f) (q.1 ∙ ap Err q.2))
 
-pub returns-in-err-a : goal.returns-in-err-a
+pub returns-in_err-a : goal.returns-in_err-a
 unfolding with_two
-returns-in-err-a c =
+returns-in_err-a c =
     let m = c.args.self.now in
-    let q = err_from_is_err_and c.from-residual-in-err-a.result c.from-residual-in-err-a.ensures.1 in
+    let q = err_from_is_err_and c.from_residual-in_err-a.result c.from_residual-in_err-a.ensures.1 in
     λ p t f.
     let s = state m p t in
-    c.in-ok-b.ensures s (λ b vs. with_one s vs (λ a us. f a b us))
-    ∙ c.in-err-a.ensures s (λ a us. f a c.in-ok-b.b us)
+    c.in_ok-b.ensures s (λ b vs. with_one s vs (λ a us. f a b us))
+    ∙ c.in_err-a.ensures s (λ a us. f a c.in_ok-b.b us)
     ∙ sym (ap (λ r. with_numbers r s (drop 2 (stack_of m)) f) (q.1 ∙ ap Err q.2))
 
 pub returns : goal.returns
@@ -30,4 +30,4 @@ returns c =
     let m = c.args.self.now in
     λ p t f.
     let s = state m p t in
-    c.in-ok-b.ensures s (λ b vs. with_one s vs (λ a us. f a b us)) ∙ c.in-ok-a.ensures s (λ a us. f a c.in-ok-b.b us)
+    c.in_ok-b.ensures s (λ b vs. with_one s vs (λ a us. f a b us)) ∙ c.in_ok-a.ensures s (λ a us. f a c.in_ok-b.b us)

@@ -8,42 +8,35 @@ use Rattle.whole_machine.proofs.NameLaws.{unset_all, listed_none, distinct_none}
 use Rattle.whole_machine.proofs.state.beginning.begin_job.Goals as goal
 
 -- no name is bound, and no flag is set
-pub invariant-of-result : goal.invariant-of-result
-invariant-of-result c =
-    let flags = c.clear-flags.new.flags in
-    let off = c.clear-flags.ensures in
+pub invariant_of-result : goal.invariant_of-result
+invariant_of-result c =
+    let flags = c.clear_flags.new.flags in
+    let off = c.clear_flags.ensures in
     let n = length c.args.bound.now in
-    let many = ap unset off ∙ unset_all n in (
-      omega arith,
-      (
-        omega arith,
-        (
-          simp length-set (omega arith),
-          (
-            simp length-set (omega arith),
-            (
-              omega arith,
-              (
-                omega arith,
-                (
-                  omega arith,
-                  (
-                    omega arith,
-                    (
-                      distinct_none,
-                      (
-                        λ k lt. ap (λ bs. get_or bs k false) off ∙ get_or-replicate n k false false (omega arith) ∙ sym (listed_none k),
-                        (omega arith, (omega arith, (omega arith, (whole_none, (weight_none, ((omega arith, omega arith), (λ i lt. absurd (omega arith), (λ i lt. absurd (omega arith), (λ i lt. absurd (omega arith), (λ i j le lt. absurd (omega arith), (λ i lt. absurd (omega arith), tt))))))))))),
-                      ),
-                    ),
-                  ),
-                ),
-              ),
-            ),
-          ),
-        ),
-      ),
-    )
+    let many = ap unset off ∙ unset_all n in
+    record {
+      upright = omega arith;
+      room = omega arith;
+      within = simp length-set (omega arith);
+      nests = simp length-set (omega arith);
+      meant = omega arith;
+      flags = omega arith;
+      ordered = omega arith;
+      counted = omega arith;
+      once = distinct_none;
+      known = λ k lt. ap (λ bs. get_or bs k false) off ∙ get_or-replicate n k false false (omega arith) ∙ sym (listed_none k);
+      stored = omega arith;
+      shelves = omega arith;
+      space = omega arith;
+      front = whole_none;
+      weighs = weight_none;
+      lights = (omega arith, omega arith);
+      fronts = λ i lt. absurd (omega arith);
+      weighed = λ i lt. absurd (omega arith);
+      light = λ i lt. absurd (omega arith);
+      nested = λ i j le lt. absurd (omega arith);
+      below = λ i lt. absurd (omega arith);
+    }
 
 pub returns : goal.returns
 returns c = λ p a b. begins c.args.tokens.now (rings_of p) (ring_of p) c.args.frames.now _ a b (omega arith) refl
