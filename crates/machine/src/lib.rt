@@ -16,6 +16,8 @@
 //
 // event: what a step tells. machine: the state, its operators, a step. outside: the numbers of
 // faults. stage: this stage as a part of the whole machine.
+#![tactic(auto)]
+
 pub mod event;
 pub mod laws;
 pub mod machine;

@@ -1,4 +1,6 @@
 // Jobs at the edges of this stage, run by the machine; what it tells of each was written down by hand first (stdout).
+#![tactic(auto)]
+
 ghost use Rattle.std.specs.Prelude.{ℕ, ◌+◌, ◌%◌, []};
 
 use machine::outside::number_of_fault;

@@ -4,13 +4,13 @@ use Rattle.machine.specs.Machine.{operate}
 use Rattle.whole_machine.specs.Abstraction.{after}
 use Rattle.operators.proofs.arithmetic.add.Goals as goal
 
-pub returns-in-err-a : goal.returns-in-err-a
+pub returns-in_err-a : goal.returns-in_err-a
 unfolding operate
-returns-in-err-a c =
+returns-in_err-a c =
     let m = c.args.m.now in
-    let q = err_from_is_err_and c.from-residual.result c.from-residual.ensures.1 in
-    λ p t. ap (λ r. after r m p t) (q.1 ∙ ap Err q.2) ∙ sym (c.in-err-a.ensures p t _)
+    let q = err_from_is_err_and c.from_residual.result c.from_residual.ensures.1 in
+    λ p t. ap (λ r. after r m p t) (q.1 ∙ ap Err q.2) ∙ sym (c.in_err-a.ensures p t _)
 
 pub returns : goal.returns
 unfolding operate
-returns c = λ p t. c.put-result.ensures p t ∙ sym (c.in-ok-a.ensures p t _)
+returns c = λ p t. c.put_result.ensures p t ∙ sym (c.in_ok-a.ensures p t _)

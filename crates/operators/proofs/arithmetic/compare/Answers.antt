@@ -5,21 +5,21 @@ use Rattle.machine.specs.Machine.{push_number, operate}
 use Rattle.whole_machine.specs.Abstraction.{state, stack_of, after}
 use Rattle.operators.proofs.arithmetic.compare.Goals as goal
 
-pub returns-in-err-a : goal.returns-in-err-a
+pub returns-in_err-a : goal.returns-in_err-a
 unfolding operate
-returns-in-err-a c =
+returns-in_err-a c =
     let m = c.args.m.now in
-    let q = err_from_is_err_and c.from-residual.result c.from-residual.ensures.1 in
-    λ p t. ap (λ r. after r m p t) (q.1 ∙ ap Err q.2) ∙ sym (c.in-err-a.ensures p t _)
+    let q = err_from_is_err_and c.from_residual.result c.from_residual.ensures.1 in
+    λ p t. ap (λ r. after r m p t) (q.1 ∙ ap Err q.2) ∙ sym (c.in_err-a.ensures p t _)
 
 pub returns-then-a-b : goal.returns-then-a-b
 unfolding operate
 returns-then-a-b c =
     let m = c.args.m.now in
-    λ p t. c.put-result.ensures p t ∙ sym (c.in-ok-a.ensures p t _ ∙ ap (push_number (state m p t) (drop 2 (stack_of m))) (cond-true _ _ _ (lt-ltb c.in-ok-a.a c.in-ok-a.b (omega arith))))
+    λ p t. c.put_result.ensures p t ∙ sym (c.in_ok-a.ensures p t _ ∙ ap (push_number (state m p t) (drop 2 (stack_of m))) (cond-true _ _ _ (lt-ltb c.in_ok-a.a c.in_ok-a.b (omega arith))))
 
 pub returns-else-a-b : goal.returns-else-a-b
 unfolding operate
 returns-else-a-b c =
     let m = c.args.m.now in
-    λ p t. c.put-result-else-a-b.ensures p t ∙ sym (c.in-ok-a.ensures p t _ ∙ ap (push_number (state m p t) (drop 2 (stack_of m))) (cond-false _ _ _ (le-ltb c.in-ok-a.a c.in-ok-a.b (omega arith))))
+    λ p t. c.put_result-else-a-b.ensures p t ∙ sym (c.in_ok-a.ensures p t _ ∙ ap (push_number (state m p t) (drop 2 (stack_of m))) (cond-false _ _ _ (le-ltb c.in_ok-a.a c.in_ok-a.b (omega arith))))

@@ -6,4 +6,4 @@ pub returns-then-n-ge-BOUND : goal.returns-then-n-ge-BOUND
 returns-then-n-ge-BOUND c = λ p t. sym (cond-false _ _ _ (le-ltb c.args.n 2147483648 (omega arith)))
 
 pub returns : goal.returns
-returns c = λ p t. c.push-over.ensures p t ∙ sym (cond-true _ _ _ (lt-ltb c.args.n 2147483648 (omega arith)))
+returns c = λ p t. c.push_over.ensures p t ∙ sym (cond-true _ _ _ (lt-ltb c.args.n 2147483648 (omega arith)))

@@ -4,9 +4,9 @@ use Rattle.whole_machine.specs.Abstraction.{state, value_of}
 use Rattle.whole_machine.specs.declared.state.Value as code_value
 use Rattle.operators.proofs.calling.call_name.Goals as goal
 
-pub returns-in-default : goal.returns-in-default
+pub returns-in_default : goal.returns-in_default
 unfolding call
-returns-in-default c = λ p t. sym (ap (call (state c.args.m.now p t)) c.in-default.ensures)
+returns-in_default c = λ p t. sym (ap (call (state c.args.m.now p t)) c.in_default.ensures)
 
 pub returns-in-Body : goal.returns-in-Body
 unfolding call
@@ -22,8 +22,8 @@ pushed (code_value.TheVariants.Number n) s other = refl
 pushed (code_value.TheVariants.Body b) s other = absurd (other b refl)
 pushed (code_value.TheVariants.Label k) s other = refl
 
-pub returns-in-default-v : goal.returns-in-default-v
-returns-in-default-v c =
+pub returns-in_default-v : goal.returns-in_default-v
+returns-in_default-v c =
     λ p t.
     let s = state c.args.m.now p t in
-    c.push-value.ensures p t ∙ pushed c.in-Some.v s c.in-default-v.not-Body ∙ sym (ap (call s) c.in-Some.ensures)
+    c.push_value.ensures p t ∙ pushed c.in-Some.v s c.in_default-v.not-Body ∙ sym (ap (call s) c.in-Some.ensures)

@@ -4,17 +4,17 @@ use Rattle.whole_machine.specs.Abstraction.{state, stack_of, value_of}
 use Rattle.whole_machine.specs.declared.state.Value as code_value
 use Rattle.operators.proofs.calling.define.Goals as goal
 
-pub returns-in-default : goal.returns-in-default
+pub returns-in_default : goal.returns-in_default
 unfolding operate bind
-returns-in-default c = λ p t. sym (ap (bind (state c.args.m.now p t)) c.in-default.ensures)
+returns-in_default c = λ p t. sym (ap (bind (state c.args.m.now p t)) c.in_default.ensures)
 
-pub returns-in-default-operand-at : goal.returns-in-default-operand-at
+pub returns-in_default-operand_at : goal.returns-in_default-operand_at
 unfolding operate bind
-returns-in-default-operand-at c =
+returns-in_default-operand_at c =
     let v = value_of c.in-Some.v in
     λ p t.
     let s = state c.args.m.now p t in
-    sym (ap (bind s) c.in-Some.ensures ∙ ap (λ vs. bind s (v ∷ vs)) c.in-default-operand-at.ensures)
+    sym (ap (bind s) c.in-Some.ensures ∙ ap (λ vs. bind s (v ∷ vs)) c.in_default-operand_at.ensures)
 
 -- under a value a quoted name is wanted
 wrong_kind : (l : code_value.Value) (s : State) (v : Value) (vs : List Value) → ((k : ℕ) → l ≡ code_value.TheVariants.Label k → ⊥) → bind s (v ∷ (value_of l ∷ vs)) ≡ ends 2 s
@@ -23,13 +23,13 @@ wrong_kind (code_value.TheVariants.Number n) s v vs other = refl
 wrong_kind (code_value.TheVariants.Body b) s v vs other = refl
 wrong_kind (code_value.TheVariants.Label k) s v vs other = absurd (other k refl)
 
-pub returns-in-default-label : goal.returns-in-default-label
+pub returns-in_default-label : goal.returns-in_default-label
 unfolding operate
-returns-in-default-label c =
+returns-in_default-label c =
     let v = value_of c.in-Some.v in
     λ p t.
     let s = state c.args.m.now p t in
-    sym (ap (bind s) c.in-Some.ensures ∙ ap (λ vs. bind s (v ∷ vs)) c.in-Some-operand-at.ensures ∙ wrong_kind _ s v _ c.in-default-label.not-Label)
+    sym (ap (bind s) c.in-Some.ensures ∙ ap (λ vs. bind s (v ∷ vs)) c.in-Some-operand_at.ensures ∙ wrong_kind _ s v _ c.in_default-label.not-Label)
 
 pub returns : goal.returns
 unfolding operate bind
@@ -39,5 +39,5 @@ returns c =
     let rest = drop 2 (stack_of m) in
     λ p t.
     let s = state m p t in
-    ap on (c.drop-operands.ensures p t ∙ ap (λ x. with_stack x (drop 2 x.stack)) (c.bind.ensures p t))
-    ∙ sym (ap (bind s) c.in-Some.ensures ∙ ap (λ vs. bind s (v ∷ vs)) c.in-Some-operand-at.ensures ∙ ap (λ l. bind s (v ∷ (value_of l ∷ rest))) c.in-Label.is)
+    ap on (c.drop_operands.ensures p t ∙ ap (λ x. with_stack x (drop 2 x.stack)) (c.bind.ensures p t))
+    ∙ sym (ap (bind s) c.in-Some.ensures ∙ ap (λ vs. bind s (v ∷ vs)) c.in-Some-operand_at.ensures ∙ ap (λ l. bind s (v ∷ (value_of l ∷ rest))) c.in-Label.is)

@@ -7,61 +7,61 @@ use Rattle.whole_machine.specs.Abstraction.{state, stack_of, after}
 use Rattle.operators.proofs.PathLaws.{beside, line_to_none, line_to_far, line_to_full, line_to_fits}
 use Rattle.operators.proofs.drawing.line_to.Goals as goal
 
-pub returns-in-err-a : goal.returns-in-err-a
+pub returns-in_err-a : goal.returns-in_err-a
 unfolding operate
-returns-in-err-a c =
+returns-in_err-a c =
     let m = c.args.m.now in
     let p = c.args.path.now in
-    let q = err_from_is_err_and c.from-residual.result c.from-residual.ensures.1 in
-    λ t. ap (λ r. after r m p t) (q.1 ∙ ap Err q.2) ∙ sym (c.in-err-a.ensures p t (λ a b vs. line_to (state m p t) a b vs (ring_of p)))
+    let q = err_from_is_err_and c.from_residual.result c.from_residual.ensures.1 in
+    λ t. ap (λ r. after r m p t) (q.1 ∙ ap Err q.2) ∙ sym (c.in_err-a.ensures p t (λ a b vs. line_to (state m p t) a b vs (ring_of p)))
 
-pub returns-then-not-is-open : goal.returns-then-not-is-open
+pub returns-then-not-is_open : goal.returns-then-not-is_open
 unfolding operate
-returns-then-not-is-open c =
+returns-then-not-is_open c =
     let m = c.args.m.now in
     let p = c.args.path.now in
     λ t.
     let s = state m p t in
-    line_to_none s c.in-ok-a.a c.in-ok-a.b (drop 2 (stack_of m)) (ring_of p) c.if-not-is-open.ensures ∙ sym (c.in-ok-a.ensures p t (λ a b vs. line_to s a b vs (ring_of p)))
+    line_to_none s c.in_ok-a.a c.in_ok-a.b (drop 2 (stack_of m)) (ring_of p) c.if-not-is_open.ensures ∙ sym (c.in_ok-a.ensures p t (λ a b vs. line_to s a b vs (ring_of p)))
 
-pub returns-in-default : goal.returns-in-default
+pub returns-in_default : goal.returns-in_default
 unfolding operate
-returns-in-default c =
+returns-in_default c =
     let m = c.args.m.now in
     let p = c.args.path.now in
     λ t.
     let s = state m p t in
-    line_to_far s c.in-ok-a.a c.in-ok-a.b (drop 2 (stack_of m)) (ring_of p) c.if-not-is-open.ensures c.in-default.ensures
-    ∙ sym (c.in-ok-a.ensures p t (λ a b vs. line_to s a b vs (ring_of p)))
+    line_to_far s c.in_ok-a.a c.in_ok-a.b (drop 2 (stack_of m)) (ring_of p) c.if-not-is_open.ensures c.in_default.ensures
+    ∙ sym (c.in_ok-a.ensures p t (λ a b vs. line_to s a b vs (ring_of p)))
 
-pub returns-then-not-append-point : goal.returns-then-not-append-point
+pub returns-then-not-append_point : goal.returns-then-not-append_point
 unfolding operate
-returns-then-not-append-point c =
+returns-then-not-append_point c =
     let m = c.args.m.now in
     let p = c.args.path.now in
-    let q = c.append-point.new.self in
-    let drawn = c.if-not-append-point.ensures in
-    let open-there = c.if-not-is-open.ensures in
+    let q = c.append_point.new.self in
+    let drawn = c.if-not-append_point.ensures in
+    let open-there = c.if-not-is_open.ensures in
     let full : ltb (points_of p) 1024 ≡ false = ap (λ b. b && ltb (points_of p) 1024) open-there ∙ sym drawn.value in
     λ t.
     let s = state m p t in
     ap (ends 7) (beside m p q t (rings_of p) (ring_of p) drawn.rings drawn.ring)
-    ∙ line_to_full s c.in-ok-a.a c.in-ok-a.b (drop 2 (stack_of m)) (ring_of p) open-there c.in-Some.ensures.0 full
-    ∙ sym (c.in-ok-a.ensures p t (λ a b vs. line_to s a b vs (ring_of p)))
+    ∙ line_to_full s c.in_ok-a.a c.in_ok-a.b (drop 2 (stack_of m)) (ring_of p) open-there c.in-Some.ensures.0 full
+    ∙ sym (c.in_ok-a.ensures p t (λ a b vs. line_to s a b vs (ring_of p)))
 
 pub returns : goal.returns
 unfolding operate
 returns c =
     let m = c.args.m.now in
     let p = c.args.path.now in
-    let q = c.append-point.new.self in
-    let drawn = c.if-not-append-point.ensures in
-    let open-there = c.if-not-is-open.ensures in
+    let q = c.append_point.new.self in
+    let drawn = c.if-not-append_point.ensures in
+    let open-there = c.if-not-is_open.ensures in
     let room : ltb (points_of p) 1024 ≡ true = ap (λ b. b && ltb (points_of p) 1024) open-there ∙ sym drawn.value in
     let at = point_of c.in-Some.corner in
     let vs = drop 2 (stack_of m) in
     λ t.
     let s = state m p t in
-    ap on (c.drop-operands.ensures q t ∙ ap (λ x. with_stack x vs) (beside m p q t (rings_of p) (ring_of p ++ (at ∷ [])) drawn.rings drawn.ring))
-    ∙ line_to_fits s c.in-ok-a.a c.in-ok-a.b vs (ring_of p) at open-there c.in-Some.ensures.0 room c.in-Some.ensures.1
-    ∙ sym (c.in-ok-a.ensures p t (λ a b vs. line_to s a b vs (ring_of p)))
+    ap on (c.drop_operands.ensures q t ∙ ap (λ x. with_stack x vs) (beside m p q t (rings_of p) (ring_of p ++ (at ∷ [])) drawn.rings drawn.ring))
+    ∙ line_to_fits s c.in_ok-a.a c.in_ok-a.b vs (ring_of p) at open-there c.in-Some.ensures.0 room c.in-Some.ensures.1
+    ∙ sym (c.in_ok-a.ensures p t (λ a b vs. line_to s a b vs (ring_of p)))

@@ -8,47 +8,47 @@ use Rattle.whole_machine.specs.Abstraction.{state, stack_of, after}
 use Rattle.operators.proofs.PathLaws.{beside, go_to_far, go_to_full, go_to_fits}
 use Rattle.operators.proofs.drawing.move_to.Goals as goal
 
-pub returns-in-err-a : goal.returns-in-err-a
+pub returns-in_err-a : goal.returns-in_err-a
 unfolding operate
-returns-in-err-a c =
+returns-in_err-a c =
     let m = c.args.m.now in
     let p = c.args.path.now in
-    let q = err_from_is_err_and c.from-residual.result c.from-residual.ensures.1 in
-    λ t. ap (λ r. after r m p t) (q.1 ∙ ap Err q.2) ∙ sym (c.in-err-a.ensures p t (go_to (state m p t)))
+    let q = err_from_is_err_and c.from_residual.result c.from_residual.ensures.1 in
+    λ t. ap (λ r. after r m p t) (q.1 ∙ ap Err q.2) ∙ sym (c.in_err-a.ensures p t (go_to (state m p t)))
 
-pub returns-in-default : goal.returns-in-default
+pub returns-in_default : goal.returns-in_default
 unfolding operate
-returns-in-default c =
+returns-in_default c =
     let m = c.args.m.now in
     let p = c.args.path.now in
     λ t.
     let s = state m p t in
-    go_to_far s c.in-ok-a.a c.in-ok-a.b (drop 2 (stack_of m)) c.in-default.ensures ∙ sym (c.in-ok-a.ensures p t (go_to s))
+    go_to_far s c.in_ok-a.a c.in_ok-a.b (drop 2 (stack_of m)) c.in_default.ensures ∙ sym (c.in_ok-a.ensures p t (go_to s))
 
-pub returns-then-not-begin-subpath : goal.returns-then-not-begin-subpath
+pub returns-then-not-begin_subpath : goal.returns-then-not-begin_subpath
 unfolding operate
-returns-then-not-begin-subpath c =
+returns-then-not-begin_subpath c =
     let m = c.args.m.now in
     let p = c.args.path.now in
-    let q = c.begin-subpath.new.self in
-    let drawn = c.if-not-begin-subpath.ensures in
+    let q = c.begin_subpath.new.self in
+    let drawn = c.if-not-begin_subpath.ensures in
     λ t.
     let s = state m p t in
     ap (ends 7) (beside m p q t (rings_of p) (ring_of p) drawn.rings drawn.ring)
-    ∙ go_to_full s c.in-ok-a.a c.in-ok-a.b (drop 2 (stack_of m)) c.in-Some.ensures.0 drawn.value
-    ∙ sym (c.in-ok-a.ensures p t (go_to s))
+    ∙ go_to_full s c.in_ok-a.a c.in_ok-a.b (drop 2 (stack_of m)) c.in-Some.ensures.0 drawn.value
+    ∙ sym (c.in_ok-a.ensures p t (go_to s))
 
 pub returns : goal.returns
 unfolding operate
 returns c =
     let m = c.args.m.now in
     let p = c.args.path.now in
-    let q = c.begin-subpath.new.self in
-    let drawn = c.if-not-begin-subpath.ensures in
+    let q = c.begin_subpath.new.self in
+    let drawn = c.if-not-begin_subpath.ensures in
     let at = point_of c.in-Some.corner in
     let vs = drop 2 (stack_of m) in
     λ t.
     let s = state m p t in
-    ap on (c.drop-operands.ensures q t ∙ ap (λ x. with_stack x vs) (beside m p q t (finished (rings_of p) (ring_of p)) (at ∷ []) drawn.rings drawn.ring))
-    ∙ go_to_fits s c.in-ok-a.a c.in-ok-a.b vs at c.in-Some.ensures.0 drawn.value c.in-Some.ensures.1
-    ∙ sym (c.in-ok-a.ensures p t (go_to s))
+    ap on (c.drop_operands.ensures q t ∙ ap (λ x. with_stack x vs) (beside m p q t (finished (rings_of p) (ring_of p)) (at ∷ []) drawn.rings drawn.ring))
+    ∙ go_to_fits s c.in_ok-a.a c.in_ok-a.b vs at c.in-Some.ensures.0 drawn.value c.in-Some.ensures.1
+    ∙ sym (c.in_ok-a.ensures p t (go_to s))

@@ -5,17 +5,17 @@ use Rattle.whole_machine.specs.Abstraction.{state}
 use Rattle.operators.proofs.PathLaws.{beside}
 use Rattle.operators.proofs.graphics.clip.Goals as goal
 
-pub returns-then-not-append-clip : goal.returns-then-not-append-clip
+pub returns-then-not-append_clip : goal.returns-then-not-append_clip
 unfolding operate
-returns-then-not-append-clip c =
-    let clipped = c.if-not-append-clip.ensures in
+returns-then-not-append_clip c =
+    let clipped = c.if-not-append_clip.ensures in
     λ t. ap (ends 7) (clipped.after c.args.path.now t) ∙ sym (cond-false _ _ _ (sym clipped.value))
 
 pub returns : goal.returns
 unfolding operate
 returns c =
-    let clipped = c.if-not-append-clip.ensures in
+    let clipped = c.if-not-append_clip.ensures in
     let p = c.args.path.now in
     let q = c.clear.new.self in
     λ t.
-    ap on (beside c.append-clip.new.self p q t [] [] c.clear.ensures.rings c.clear.ensures.ring ∙ ap (λ s. with_path s [] []) (clipped.after p t)) ∙ sym (cond-true _ _ _ (sym clipped.value))
+    ap on (beside c.append_clip.new.self p q t [] [] c.clear.ensures.rings c.clear.ensures.ring ∙ ap (λ s. with_path s [] []) (clipped.after p t)) ∙ sym (cond-true _ _ _ (sym clipped.value))

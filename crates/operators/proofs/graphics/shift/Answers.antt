@@ -5,16 +5,16 @@ use Rattle.machine.specs.Machine.{on, with_stack, operate}
 use Rattle.whole_machine.specs.Abstraction.{state, stack_of, after, with_corner}
 use Rattle.operators.proofs.graphics.shift.Goals as goal
 
-pub returns-in-err-a : goal.returns-in-err-a
+pub returns-in_err-a : goal.returns-in_err-a
 unfolding operate
-returns-in-err-a c =
+returns-in_err-a c =
     let m = c.args.m.now in
-    let q = err_from_is_err_and c.from-residual.result c.from-residual.ensures.1 in
-    λ p t. ap (λ r. after r m p t) (q.1 ∙ ap Err q.2) ∙ sym (c.in-err-a.ensures p t _)
+    let q = err_from_is_err_and c.from_residual.result c.from_residual.ensures.1 in
+    λ p t. ap (λ r. after r m p t) (q.1 ∙ ap Err q.2) ∙ sym (c.in_err-a.ensures p t _)
 
-pub returns-in-default : goal.returns-in-default
+pub returns-in_default : goal.returns-in_default
 unfolding operate
-returns-in-default c = λ p t. sym (c.in-ok-a.ensures p t _ ∙ cond-false _ _ _ c.in-default.ensures)
+returns-in_default c = λ p t. sym (c.in_ok-a.ensures p t _ ∙ cond-false _ _ _ c.in_default.ensures)
 
 pub returns : goal.returns
 unfolding operate
@@ -22,5 +22,5 @@ returns c =
     let m = c.args.m.now in
     λ p t.
     let s = state m p t in
-    ap on (c.drop-operands.ensures p t ∙ ap (λ x. with_stack x (drop 2 x.stack)) (c.set-corner.ensures p t) ∙ ap (λ q. with_stack (with_corner s q.x q.y) (drop 2 (stack_of m))) c.in-Some.ensures.1)
-    ∙ sym (c.in-ok-a.ensures p t _ ∙ cond-true _ _ _ c.in-Some.ensures.0)
+    ap on (c.drop_operands.ensures p t ∙ ap (λ x. with_stack x (drop 2 x.stack)) (c.set_corner.ensures p t) ∙ ap (λ q. with_stack (with_corner s q.x q.y) (drop 2 (stack_of m))) c.in-Some.ensures.1)
+    ∙ sym (c.in_ok-a.ensures p t _ ∙ cond-true _ _ _ c.in-Some.ensures.0)

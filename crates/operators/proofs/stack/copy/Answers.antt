@@ -3,9 +3,9 @@ use Rattle.machine.specs.Machine.{push, top_one, operate}
 use Rattle.whole_machine.specs.Abstraction.{state, stack_of, value_of}
 use Rattle.operators.proofs.stack.copy.Goals as goal
 
-pub returns-in-default : goal.returns-in-default
+pub returns-in_default : goal.returns-in_default
 unfolding operate top_one
-returns-in-default c = λ p t. sym (ap (λ vs. top_one (state c.args.m.now p t) vs (λ a us. push (state c.args.m.now p t) (a ∷ us) a)) c.in-default.ensures)
+returns-in_default c = λ p t. sym (ap (λ vs. top_one (state c.args.m.now p t) vs (λ a us. push (state c.args.m.now p t) (a ∷ us) a)) c.in_default.ensures)
 
 pub returns : goal.returns
 unfolding operate top_one
@@ -14,4 +14,4 @@ returns c =
     let v = value_of c.in-Some.v in
     λ p t.
     let s = state m p t in
-    c.push-value.ensures p t ∙ ap (λ vs. push s vs v) c.in-Some.ensures ∙ sym (ap (λ vs. top_one s vs (λ a us. push s (a ∷ us) a)) c.in-Some.ensures)
+    c.push_value.ensures p t ∙ ap (λ vs. push s vs v) c.in-Some.ensures ∙ sym (ap (λ vs. top_one s vs (λ a us. push s (a ∷ us) a)) c.in-Some.ensures)

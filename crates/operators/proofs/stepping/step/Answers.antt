@@ -6,13 +6,13 @@ use Rattle.whole_machine.specs.Abstraction.{state, frame_of}
 use Rattle.operators.proofs.StepLaws.{finished_there, once_more, leaves, takes_one}
 use Rattle.operators.proofs.stepping.step.Goals as goal
 
-pub returns-in-default : goal.returns-in-default
-returns-in-default c = λ t. finished_there (state c.args.m.now c.args.path.now t) c.in-default.ensures
+pub returns-in_default : goal.returns-in_default
+returns-in_default c = λ t. finished_there (state c.args.m.now c.args.path.now t) c.in_default.ensures
 
 pub returns-then-f-gt0 : goal.returns-then-f-gt0
 returns-then-f-gt0 c =
     let p = c.args.path.now in
-    λ t. ap on (c.replace-top.ensures p t) ∙ once_more (state c.args.m.now p t) (frame_of c.in-Some.f) _ c.in-Some.ensures c.in-None.ensures.value c.if-f-gt0.true
+    λ t. ap on (c.replace_top.ensures p t) ∙ once_more (state c.args.m.now p t) (frame_of c.in-Some.f) _ c.in-Some.ensures c.in-None.ensures.value c.if-f-gt0.true
 
 pub returns-else-f-gt0 : goal.returns-else-f-gt0
 returns-else-f-gt0 c =
@@ -23,43 +23,43 @@ pub returns-in-Number : goal.returns-in-Number
 unfolding run_token
 returns-in-Number c =
     let p = c.args.path.now in
-    let ts = decode c.in-Some-next-token.rest.now in
+    let ts = decode c.in-Some-next_token.rest.now in
     λ t.
-    c.push-value.ensures p t ∙ ap (λ s. push s s.stack (amount c.in-Number.n)) (c.replace-top-in-Some-next-token.ensures p t)
-    ∙ takes_one (state c.args.m.now p t) (frame_of c.in-Some.f) _ (number c.in-Number.n) ts c.in-Some.ensures (ap (λ x. more (token_of x) ts) (sym c.in-Number.is) ∙ c.in-Some-next-token.ensures.value)
+    c.push_value.ensures p t ∙ ap (λ s. push s s.stack (amount c.in-Number.n)) (c.replace_top-in-Some-next_token.ensures p t)
+    ∙ takes_one (state c.args.m.now p t) (frame_of c.in-Some.f) _ (number c.in-Number.n) ts c.in-Some.ensures (ap (λ x. more (token_of x) ts) (sym c.in-Number.is) ∙ c.in-Some-next_token.ensures.value)
 
 pub returns-in-Does : goal.returns-in-Does
 unfolding run_token
 returns-in-Does c =
     let p = c.args.path.now in
-    let ts = decode c.in-Some-next-token.rest.now in
+    let ts = decode c.in-Some-next_token.rest.now in
     λ t.
-    c.perform.ensures t ∙ ap (λ s. operate s (operator_of c.in-Does.op)) (c.replace-top-in-Some-next-token.ensures p t)
-    ∙ takes_one (state c.args.m.now p t) (frame_of c.in-Some.f) _ (does (operator_of c.in-Does.op)) ts c.in-Some.ensures (ap (λ x. more (token_of x) ts) (sym c.in-Does.is) ∙ c.in-Some-next-token.ensures.value)
+    c.perform.ensures t ∙ ap (λ s. operate s (operator_of c.in-Does.op)) (c.replace_top-in-Some-next_token.ensures p t)
+    ∙ takes_one (state c.args.m.now p t) (frame_of c.in-Some.f) _ (does (operator_of c.in-Does.op)) ts c.in-Some.ensures (ap (λ x. more (token_of x) ts) (sym c.in-Does.is) ∙ c.in-Some-next_token.ensures.value)
 
 pub returns-in-Name : goal.returns-in-Name
 unfolding run_token
 returns-in-Name c =
     let p = c.args.path.now in
-    let ts = decode c.in-Some-next-token.rest.now in
+    let ts = decode c.in-Some-next_token.rest.now in
     λ t.
-    c.call-name.ensures p t ∙ ap (λ s. call s (found s.names c.in-Name.k [])) (c.replace-top-in-Some-next-token.ensures p t)
-    ∙ takes_one (state c.args.m.now p t) (frame_of c.in-Some.f) _ (name c.in-Name.k) ts c.in-Some.ensures (ap (λ x. more (token_of x) ts) (sym c.in-Name.is) ∙ c.in-Some-next-token.ensures.value)
+    c.call_name.ensures p t ∙ ap (λ s. call s (found s.names c.in-Name.k [])) (c.replace_top-in-Some-next_token.ensures p t)
+    ∙ takes_one (state c.args.m.now p t) (frame_of c.in-Some.f) _ (name c.in-Name.k) ts c.in-Some.ensures (ap (λ x. more (token_of x) ts) (sym c.in-Name.is) ∙ c.in-Some-next_token.ensures.value)
 
 pub returns-in-Quoted : goal.returns-in-Quoted
 unfolding run_token
 returns-in-Quoted c =
     let p = c.args.path.now in
-    let ts = decode c.in-Some-next-token.rest.now in
+    let ts = decode c.in-Some-next_token.rest.now in
     λ t.
-    c.push-value-in-Quoted.ensures p t ∙ ap (λ s. push s s.stack (label c.in-Quoted.k)) (c.replace-top-in-Some-next-token.ensures p t)
-    ∙ takes_one (state c.args.m.now p t) (frame_of c.in-Some.f) _ (quoted c.in-Quoted.k) ts c.in-Some.ensures (ap (λ x. more (token_of x) ts) (sym c.in-Quoted.is) ∙ c.in-Some-next-token.ensures.value)
+    c.push_value-in-Quoted.ensures p t ∙ ap (λ s. push s s.stack (label c.in-Quoted.k)) (c.replace_top-in-Some-next_token.ensures p t)
+    ∙ takes_one (state c.args.m.now p t) (frame_of c.in-Some.f) _ (quoted c.in-Quoted.k) ts c.in-Some.ensures (ap (λ x. more (token_of x) ts) (sym c.in-Quoted.is) ∙ c.in-Some-next_token.ensures.value)
 
 pub returns-in-Body : goal.returns-in-Body
 unfolding run_token
 returns-in-Body c =
     let p = c.args.path.now in
-    let ts = decode c.in-Some-next-token.rest.now in
+    let ts = decode c.in-Some-next_token.rest.now in
     λ t.
-    c.push-value-in-Body.ensures p t ∙ ap (λ s. push s s.stack (code (decode c.in-Body.b.now))) (c.replace-top-in-Some-next-token.ensures p t)
-    ∙ takes_one (state c.args.m.now p t) (frame_of c.in-Some.f) _ (body (decode c.in-Body.b.now)) ts c.in-Some.ensures (ap (λ x. more (token_of x) ts) (sym c.in-Body.is) ∙ c.in-Some-next-token.ensures.value)
+    c.push_value-in-Body.ensures p t ∙ ap (λ s. push s s.stack (code (decode c.in-Body.b.now))) (c.replace_top-in-Some-next_token.ensures p t)
+    ∙ takes_one (state c.args.m.now p t) (frame_of c.in-Some.f) _ (body (decode c.in-Body.b.now)) ts c.in-Some.ensures (ap (λ x. more (token_of x) ts) (sym c.in-Body.is) ∙ c.in-Some-next_token.ensures.value)

@@ -1,4 +1,4 @@
-use mathlib.Core.Path.{◌≡◌, ap, ◌∙◌}
+use mathlib.Core.Path.{ap, ◌∙◌}
 use Rattle.tokens.specs.Stage.{stage}
 use Rattle.tokens.proofs.Decoding.{stored_reads_back}
 use Rattle.lexer.proofs.Ranges.{read_in_range}
