@@ -2,6 +2,8 @@
 //
 // In: a text, or stored tokens and words for a path and for clips, each slice as a pointer and a length. Out: one
 // number. No C caller is held to a `requires`, so words that are too few are refused, by the largest number.
+#![tactic(auto)]
+
 ghost use Rattle.std.specs.Prelude.{◌≡◌, ◌<◌, ◌≤◌, length, replicate};
 ghost use Rattle.tokens.specs.Stored.{decode};
 ghost use Rattle.tokens.specs.Stage.{stage};

@@ -50,13 +50,13 @@ goes_on r h = elim (cases_Bool (is_stopped r)) [ inl e ↦ never {b = true} (h e
 
 pub returns : goal.returns
 returns c =
-    let d = c.run-job-ending.ensures.driven in
-    let runs = goes_on c.run-job-ending.result d.enough in
+    let d = c.run_job-ending.ensures.driven in
+    let runs = goes_on c.run_job-ending.result d.enough in
     let all = d.whole runs in
     let first = begin (decode c.args.tokens.now) in
     record {
       pages = exact _ d.taken (past_of (run d.taken first)) d.seen d.few (omega arith) ∙ ap (λ n. length (state_of (run n first)).pages) all;
-      words = c.run-job-ending.ensures.words;
-      clips = c.run-job-ending.ensures.clips;
+      words = c.run_job-ending.ensures.words;
+      clips = c.run_job-ending.ensures.clips;
       ended = d.ended runs;
     }

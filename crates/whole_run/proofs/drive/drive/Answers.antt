@@ -68,7 +68,7 @@ loop-i-preserved g c =
             u,
             run_on i before (state m p u) _ (ap (λ e. after_event e m p t) (sym w.in-Painted.is) ∙ went) inv.1,
             ap g.E.Sink.view w.sink-is
-                ∙ w.painted.ensures.seen (subst (λ ws. ExtentOf w.front-extent.result (rings_in ws)) (sym w.front.ensures) w.front-extent.ensures)
+                ∙ w.painted.ensures.seen (subst (λ ws. ExtentOf w.front_extent.result (rings_in ws)) (sym w.front.ensures) w.front_extent.ensures)
                 ∙ ap (λ x. g.E.Sink.paint x (g.E.Sink.view c.loop-i.sink)) (same_paint w.front.ensures w.clip_words.ensures w.grey.ensures)
                 ∙ told_painted g.E.Sink.paint g.E.Sink.page t _ _ _ inv.2,
             omega arith,
@@ -83,20 +83,20 @@ loop-i-preserved g c =
       )
     ]
 
-pub returns-then-is-finished : goal.returns-then-is-finished
-returns-then-is-finished g c =
+pub returns-then-is_finished : goal.returns-then-is_finished
+returns-then-is_finished g c =
     let inv = c.loop-i.invariant in
     let last = state c.loop-i.m c.loop-i.path inv.0 in
     record {
-      driven = rests g.E.Sink.paint g.E.Sink.page g.E.Sink.more Finished c.args.steps c.loop-i.i last _ _ _ (omega arith) inv.1 inv.2 inv.3 (λ _. (omega arith, c.if-is-finished.ensures last)) (λ h. never refl h);
+      driven = rests g.E.Sink.paint g.E.Sink.page g.E.Sink.more Finished c.args.steps c.loop-i.i last _ _ _ (omega arith) inv.1 inv.2 inv.3 (λ _. (omega arith, c.if-is_finished.ensures last)) (λ h. never refl h);
       lent = inv.4;
     }
 
-pub returns-else-is-finished : goal.returns-else-is-finished
-returns-else-is-finished g c =
+pub returns-else-is_finished : goal.returns-else-is_finished
+returns-else-is_finished g c =
     let inv = c.loop-i.invariant in
     let last = state c.loop-i.m c.loop-i.path inv.0 in
     record {
-      driven = rests g.E.Sink.paint g.E.Sink.page g.E.Sink.more (Failed StepsUsedUp) c.args.steps c.loop-i.i last _ _ _ (omega arith) inv.1 inv.2 inv.3 (λ _. (omega arith, c.if-is-finished.ensures last)) (λ h. never refl h);
+      driven = rests g.E.Sink.paint g.E.Sink.page g.E.Sink.more (Failed StepsUsedUp) c.args.steps c.loop-i.i last _ _ _ (omega arith) inv.1 inv.2 inv.3 (λ _. (omega arith, c.if-is_finished.ensures last)) (λ h. never refl h);
       lent = inv.4;
     }
