@@ -2,7 +2,7 @@ ghost use Rattle.std.specs.Prelude.{◌≡◌, not, [], ◌∷◌};
 ghost use Rattle.band.specs.Canvas.{Canvas, fits, paint_onto, page_over};
 
 use path::extent::Extent;
-use raster::band::paint_band;
+use raster::band::paint_within;
 use whole_run::drive::Sink;
 
 // the rows of a page that are asked for: `count` rows of `width` dots from row `first` on
@@ -50,7 +50,7 @@ impl<'b> Sink for BandSink<'b> {
     fn painted(&mut self, path: &[u64], extent: Extent, clips: &[u64], grey: u8) {
         let band = self.band;
         if !self.done && self.before == 0 && fits_in(band, self.bytes.len()) {
-            paint_band(
+            paint_within(
                 path, extent, clips, grey, self.bytes, band.width, band.first, band.count,
             );
         }

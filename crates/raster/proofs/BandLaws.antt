@@ -100,7 +100,7 @@ banded_more f was bytes part w start r above fits b len painted =
     )
 
 -- the rows of some things and of one more, dot by dot
-painted_more : (was bytes : List ℕ) (w y n : ℕ) (t : Paint) → length bytes ≡ length was → n * w ≤ length was →
+pub painted_more : (was bytes : List ℕ) (w y n : ℕ) (t : Paint) → length bytes ≡ length was → n * w ≤ length was →
     ((r x : ℕ) → r < n → x < w → get_or bytes (r * w + x) 0 ≡ cond (covers t x (y + r)) t.grey (get_or was (r * w + x) 0)) → ((i : ℕ) → n * w ≤ i → get_or bytes i 0 ≡ get_or was i 0) →
     (ps : List Paint) → take (n * w) was ≡ rows ps w y n → bytes ≡ rows (ps ++ (t ∷ [])) w y n ++ drop (n * w) was
 painted_more was bytes w y n t same fits one behind ps e =

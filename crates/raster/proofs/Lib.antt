@@ -1,7 +1,8 @@
-mod BandLaws
+pub mod BandLaws
 mod CrossLaws
 mod EdgeLaws
 mod LevelLaws
 mod Moving
-mod Painting
+pub mod Painting
 mod Rings
+mod WithinLaws

@@ -1,11 +1,21 @@
-ghost use Rattle.std.specs.Prelude.{◌≡◌, ℕ, ◌+◌, ◌-◌, ◌*◌, ◌/◌, ◌<◌, ◌≤◌, length, if◌then◌else◌, slice_index};
+ghost use Rattle.std.specs.Prelude.{◌≡◌, ℕ, ◌+◌, ◌-◌, ◌*◌, ◌/◌, ◌<◌, ◌≤◌, min, length, if◌then◌else◌, slice_index};
 ghost use Rattle.bits.specs.Row.{Empty};
+ghost use Rattle.path.specs.Extent.{ExtentOf};
+ghost use Rattle.path.specs.Stored.{rings_in};
 ghost use Rattle.raster.specs.Coverage.{covers};
-ghost use Rattle.raster.specs.Band.{PaintedBand};
+ghost use Rattle.raster.specs.Band.{PaintedWithin, PaintedBand};
 ghost use Rattle.raster.specs.Thing.{thing};
 
 use super::coverage::paint_row;
-use super::levels::{levels_of, narrowed};
+use super::levels::{Levels, levels_of, narrowed};
+use path::extent::Extent;
+
+// Rows of a band, counted from its first: from `start` up to before `end`.
+#[derive(Clone, Copy)]
+struct Rows {
+    start: usize,
+    end: usize,
+}
 
 // How many rows from row `first` on have their middle above the level.
 fn rows_above(level: u32, first: u32) -> usize
@@ -102,5 +112,47 @@ pub fn paint_band(
     let end = rows_above(levels.bottom, first).min(count);
     if start < end {
         paint_rows(path, clips, grey, bytes, width, first, start, end);
+    }
+}
+
+// Those of `count` rows from row `first` on that have their middle within the levels.
+fn rows_within(levels: Levels, first: u32, count: usize) -> Rows
+    ensures start { result.start ≡ min ((levels.top + 7) / 16 - first) count }
+    ensures end { result.end ≡ min ((levels.bottom + 7) / 16 - first) count }
+{
+    Rows {
+        start: rows_above(levels.top, first).min(count),
+        end: rows_above(levels.bottom, first).min(count),
+    }
+}
+
+// Paints as `paint_band` does, where the extent is the path's. Rows outside of the extent are left alone, whatever
+// extent that is, so a thing that does not reach the band costs a comparison and no walk over its points.
+pub fn paint_within(
+    path: &[u64],
+    extent: Extent,
+    clips: &[u64],
+    grey: u8,
+    bytes: &mut [u8],
+    width: usize,
+    first: u32,
+    count: usize,
+)
+    requires len { (count * width ≤ length bytes.old) × (width ≤ 8192) }
+    requires near { first + count ≤ 65536 }
+    ensures within { PaintedWithin bytes.old bytes.new width first count (thing path.now clips.now grey) extent }
+    ensures after { ExtentOf extent (rings_in path.now) → PaintedBand bytes.old bytes.new width first count (thing path.now clips.now grey) }
+{
+    let levels = Levels {
+        top: extent.top,
+        bottom: extent.bottom,
+    };
+    let reached = rows_within(levels, first, count);
+    if reached.start >= reached.end {
+        return;
+    }
+    let rows = rows_within(narrowed(levels, clips), first, count);
+    if rows.start < rows.end {
+        paint_rows(path, clips, grey, bytes, width, first, rows.start, rows.end);
     }
 }

@@ -8,7 +8,8 @@
 #[cfg(test)]
 mod tests {
     use path::builder::Path;
-    use raster::band::paint_band;
+    use path::extent::Extent;
+    use raster::band::{paint_band, paint_within};
 
     // How many dots of a row are not white.
     fn painted_dots(row: &[u8]) -> usize {
@@ -301,6 +302,27 @@ mod tests {
         assert_eq!(rt; path.points(), 0);
         paint_band(path.front(used), &[], 9, &mut bytes, 2, 0, 2);
         assert!(rt; bytes == [9, 255, 9, 9]);
+    }
+
+    // The square from 0 to 64 has the levels 8, 24, 40 and 56, of which the extent from 24 up to before 40 has one.
+    #[test]
+    fn rows_outside_the_extent(rt: HostRuntime) {
+        let mut bytes = [255u8; 4];
+        let extent = Extent {
+            top: 24,
+            bottom: 40,
+        };
+        paint_within(
+            &[4, 0, 0, 64, 0, 64, 64, 0, 64],
+            extent,
+            &[],
+            7,
+            &mut bytes,
+            1,
+            0,
+            4,
+        );
+        assert!(rt; bytes == [255, 7, 255, 255]);
     }
 
     // What is painted later is on top.

@@ -7,5 +7,5 @@ pub returns : goal.returns
 unfolding clip_lines
 returns c =
     let a = c.put_text.ensures in
-    let b = c.put-path.ensures in
+    let b = c.put_path.ensures in
     record { after = then a.after b.after; lent = b.lent ∙ a.lent }

@@ -9,8 +9,8 @@ pub loop-path-preserved : goal.loop-path-preserved
 loop-path-preserved c =
     let n = c.in-Some.ensures in
     let inv = c.loop-path.invariant in
-    let e = c.put-clip.ensures in (
-      pieces_more clip_lines (rings_in (ahead c.in-Some.path)) (paths_in (ahead c.next-path.new.self)) (paths_in (ahead c.loop-path.rest)) n.cases e.after ∙ inv.0,
+    let e = c.put_clip.ensures in (
+      pieces_more clip_lines (rings_in (ahead c.in-Some.path)) (paths_in (ahead c.next_path.new.self)) (paths_in (ahead c.loop-path.rest)) n.cases e.after ∙ inv.0,
       e.lent ∙ inv.1,
       omega (arith, n.rest),
     )
@@ -18,4 +18,4 @@ loop-path-preserved c =
 pub returns : goal.returns
 returns c =
     let inv = c.loop-path.invariant in
-    record { after = record { is = pieces_all clip_lines (paths_in (ahead c.loop-path.rest)) _ c.in-default.ensures.cases ∙ inv.0 }; lent = inv.1 }
+    record { after = record { is = pieces_all clip_lines (paths_in (ahead c.loop-path.rest)) _ c.in_default.ensures.cases ∙ inv.0 }; lent = inv.1 }

@@ -9,8 +9,8 @@ pub loop-corner-preserved : goal.loop-corner-preserved
 loop-corner-preserved c =
     let n = c.in-Some.ensures in
     let inv = c.loop-corner.invariant in
-    let e = c.put-point.ensures in (
-      pieces_more (point_line c.args.indent) (point_of c.in-Some.corner) (points_in (ahead c.next-point.new.self)) (points_in (ahead c.loop-corner.rest)) n.cases e.after ∙ inv.0,
+    let e = c.put_point.ensures in (
+      pieces_more (point_line c.args.indent) (point_of c.in-Some.corner) (points_in (ahead c.next_point.new.self)) (points_in (ahead c.loop-corner.rest)) n.cases e.after ∙ inv.0,
       e.lent ∙ inv.1,
       omega (arith, n.rest),
     )
@@ -18,4 +18,4 @@ loop-corner-preserved c =
 pub returns : goal.returns
 returns c =
     let inv = c.loop-corner.invariant in
-    record { after = record { is = pieces_all (point_line c.args.indent) (points_in (ahead c.loop-corner.rest)) _ c.in-default.ensures.cases ∙ inv.0 }; lent = inv.1 }
+    record { after = record { is = pieces_all (point_line c.args.indent) (points_in (ahead c.loop-corner.rest)) _ c.in_default.ensures.cases ∙ inv.0 }; lent = inv.1 }

@@ -12,10 +12,10 @@ pub returns : goal.returns
 unfolding thing_lines clips_in
 returns c =
     let a = c.put_text.ensures in
-    let b = c.put-number.ensures in
-    let d = c.put-text-2.ensures in
-    let e = c.put-path.ensures in
-    let f = c.put-clips.ensures in
+    let b = c.put_number.ensures in
+    let d = c.put_text-2.ensures in
+    let e = c.put_path.ensures in
+    let f = c.put_clips.ensures in
     let path = ap (λ w. path_lines 2 (rings_in w)) c.new.ensures in
     let clips = ap (λ w. flat_map clip_lines (paths_in w)) c.new-2.ensures in
     let oldest = ap (flat_map clip_lines) (sym (reverse-reverse (paths_in c.args.clips.now))) in

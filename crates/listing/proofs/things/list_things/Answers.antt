@@ -7,7 +7,7 @@ use Rattle.listing.proofs.things.list_things.Goals as goal
 
 pub returns : goal.returns
 returns c =
-    let e = c.run-job.ensures in
-    let done = all_written c.args.bytes.now c.args.steps (begin (decode c.args.tokens.now)) c.run-job.result _ _ _ (omega arith) (omega arith) refl e.driven c.write-mark.ensures in
+    let e = c.run_job.ensures in
+    let done = all_written c.args.bytes.now c.args.steps (begin (decode c.args.tokens.now)) c.run_job.result _ _ _ (omega arith) (omega arith) refl e.driven c.write_mark.ensures in
     let same = ap (λ (o : Output). o.bytes) done in
     record { value = ap (λ (o : Output). o.at) done; bytes = search rules; path = e.words; clips = e.clips }

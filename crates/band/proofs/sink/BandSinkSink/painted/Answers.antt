@@ -2,10 +2,10 @@ use Rattle.std.proofs.Common.{sym, refl}
 use Rattle.band.proofs.Painting.{paints}
 use Rattle.band.proofs.sink.BandSinkSink.painted.Goals as goal
 
-pub returns-then-fits-in : goal.returns-then-fits-in
-returns-then-fits-in c =
+pub returns-then-fits_in : goal.returns-then-fits_in
+returns-then-fits_in c =
     let self = c.args.self.now in
     record {
-      seen = λ own. paints self.band self.bytes.now c.paint-band.new.bytes self.before self.done c.args.path.now c.args.clips.now c.args.grey c.if-not-self.true c.if-self-eq0.true (sym c.if-fits-in.ensures) c.paint-band.auto.bytes (c.paint-band.ensures.after own);
+      seen = λ own. paints self.band self.bytes.now c.paint-band.new.bytes self.before self.done c.args.path.now c.args.clips.now c.args.grey c.if-not-self.true c.if-self-eq0.true (sym c.if-fits_in.ensures) c.paint-band.auto.bytes (c.paint-band.ensures.after own);
       lent = refl;
     }

@@ -17,8 +17,8 @@ returns t c =
     elim c.if-n-ge10.branch [
       | then-n-ge10 w ↦
           record {
-            after = same_text (sym (decimal_step n (omega arith) (omega arith))) (then w.put-number.ensures.after (subst before w.self-is e.after));
-            lent = e.lent ∙ ap held w.self-is ∙ w.put-number.ensures.lent;
+            after = same_text (sym (decimal_step n (omega arith) (omega arith))) (then w.put_number.ensures.after (subst before w.self-is e.after));
+            lent = e.lent ∙ ap held w.self-is ∙ w.put_number.ensures.lent;
           }
       | else-n-ge10 w ↦
           record { after = same_text (sym (decimal_digit n (omega arith) ∙ ap (λ z. (48 + z) ∷ []) (omega arith))) (subst before w.self-is e.after); lent = e.lent ∙ ap held w.self-is }

@@ -8,7 +8,7 @@ use Rattle.listing.proofs.writer.Writer.put.Goals.{then-self, else-self}
 
 pub returns : goal.returns
 returns c =
-    let counted = ap (λ n. output n c.if-self.self.bytes.now) c.saturating-add-self.ensures in
+    let counted = ap (λ n. output n c.if-self.self.bytes.now) c.saturating_add-self.ensures in
     let one = λ (z : Writer). output (min (z.at + 1) 18446744073709551615) z.bytes.now in
     let held = λ (z : Writer). z.bytes.ghost_name in
     let was = c.args.self.now in
