@@ -8,9 +8,9 @@ use Rattle.session.proofs.listing.list_stored.Goals as goal
 
 pub returns : goal.returns
 returns c =
-    let text = c.split-at-mut-text.ensures in
-    let e = c.list-things-length.ensures in
-    let same = ap (λ (ws : List ℕ). listing_of (state_of (run c.args.steps (begin (decode ws))))) (sym (ap (take c.args.used) text.value ∙ take_at _ _ c.args.used text.front-len)) in
+    let text = c.split_at_mut-text.ensures in
+    let e = c.list_things-length.ensures in
+    let same = ap (λ (ws : List ℕ). listing_of (state_of (run c.args.steps (begin (decode ws))))) (sym (ap (take c.args.used) text.value ∙ take_at _ _ c.args.used text.front_len)) in
     record {
       value = e.value ∙ ap (λ t. min (length t) 18446744073709551615) same;
       words = search rules;

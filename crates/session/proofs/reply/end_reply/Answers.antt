@@ -8,7 +8,7 @@ use Rattle.session.proofs.reply.end_reply.Goals as goal
 pub returns : goal.returns
 returns c =
     let ran = run_at c.args.text.now c.args.header.now c.steps.result c.steps.ensures in
-    let e = c.count-pages-outcome.ensures in
+    let e = c.count_pages-outcome.ensures in
     let pages = e.pages ∙ ap (λ w. length (state_of w).pages) ran in
-    let ending = c.number-of-ending.ensures ∙ e.ended ∙ ap end_of ran in
-    record { value = ap (λ z. Ended z c.number-of-ending.result) pages ∙ ap (Ended (length (pages_at c.args.text.now c.args.header.now))) ending; path = e.words; clips = e.clips }
+    let ending = c.number_of_ending.ensures ∙ e.ended ∙ ap end_of ran in
+    record { value = ap (λ z. Ended z c.number_of_ending.result) pages ∙ ap (Ended (length (pages_at c.args.text.now c.args.header.now))) ending; path = e.words; clips = e.clips }

@@ -19,7 +19,7 @@ returns-then-path-lt-PATH c =
     let none = λ (kept : List ℕ). unsaid c.args.text.now c.args.header.now path clips kept c.args.bytes.now q tight in
     record {
       answer = none;
-      memory = λ kept. left _ _ path clips kept c.args.bytes.now _ _ _ q (refused 5) (none kept) c.zero-all.ensures.path c.zero-all.ensures.clips (c.zero-all.ensures.bytes ∙ zeros_put (refused 5) 5 _ refl);
+      memory = λ kept. left _ _ path clips kept c.args.bytes.now _ _ _ q (refused 5) (none kept) c.zero_all.ensures.path c.zero_all.ensures.clips (c.zero_all.ensures.bytes ∙ zeros_put (refused 5) 5 _ refl);
     }
 
 pub returns-in-End : goal.returns-in-End
@@ -30,8 +30,8 @@ returns-in-End c =
     let path = c.args.path.now in
     let clips = c.args.clips.now in
     let bytes = c.args.bytes.now in
-    let e = c.end-reply.ensures in
-    let a = λ (kept : List ℕ). said text header path clips kept bytes (asked_of c.args.question) (answer_of c.end-reply.result bytes) (roomy (length path) (length clips) (omega arith) (omega arith)) (ap (λ z. answer_of z bytes) e.value ∙ sym (ap (λ z. answer_in (length bytes) (pages_at text header) (ending_at text header) (width_in header) (height_in header) (asked_of z)) c.in-End.is)) in
+    let e = c.end_reply.ensures in
+    let a = λ (kept : List ℕ). said text header path clips kept bytes (asked_of c.args.question) (answer_of c.end_reply.result bytes) (roomy (length path) (length clips) (omega arith) (omega arith)) (ap (λ z. answer_of z bytes) e.value ∙ sym (ap (λ z. answer_in (length bytes) (pages_at text header) (ending_at text header) (width_in header) (height_in header) (asked_of z)) c.in-End.is)) in
     record { answer = a; memory = λ kept. left _ _ path clips kept bytes _ _ _ _ _ (a kept) e.path e.clips (sym (ap (λ z. put_answer (answer_of z bytes) bytes) e.value)) }
 
 pub returns-in-Band : goal.returns-in-Band
@@ -41,6 +41,6 @@ returns-in-Band c =
     let path = c.args.path.now in
     let clips = c.args.clips.now in
     let bytes = c.args.bytes.now in
-    let e = c.band-reply.ensures in
-    let a = λ (kept : List ℕ). said text header path clips kept bytes (asked_of c.args.question) (answer_of c.band-reply.result c.band-reply.new.bytes) (roomy (length path) (length clips) (omega arith) (omega arith)) (e.answer ∙ sym (ap (λ z. answer_in (length bytes) (pages_at text header) (ending_at text header) (width_in header) (height_in header) (asked_of z)) c.in-Band.is)) in
+    let e = c.band_reply.ensures in
+    let a = λ (kept : List ℕ). said text header path clips kept bytes (asked_of c.args.question) (answer_of c.band_reply.result c.band_reply.new.bytes) (roomy (length path) (length clips) (omega arith) (omega arith)) (e.answer ∙ sym (ap (λ z. answer_in (length bytes) (pages_at text header) (ending_at text header) (width_in header) (height_in header) (asked_of z)) c.in-Band.is)) in
     record { answer = a; memory = λ kept. left _ _ path clips kept bytes _ _ _ _ _ (a kept) e.path e.clips (e.bytes ∙ ap (λ z. put_answer z bytes) (sym e.answer)) }

@@ -11,13 +11,13 @@ use Rattle.session.proofs.session.open.Goals as goal
 
 pub lay-requires : goal.lay-requires
 lay-requires c =
-    let s = stored_well _ _ _ _ _ c.in-default.ensures refl c.in-Ok.ensures in
-    record { words = omega (arith, s.4, c.store-tokens.auto.words); bytes = (s.5, s.6) }
+    let s = stored_well _ _ _ _ _ c.in_default.ensures refl c.in-Ok.ensures in
+    record { words = omega (arith, s.4, c.store_tokens.auto.words); bytes = (s.5, s.6) }
 
 pub returns-in-Ok : goal.returns-in-Ok
 returns-in-Ok c =
     let o = order_of c.args.source.now c.args.order (length c.args.words.now) (length c.args.bytes.now) in
-    let s = stored_well _ _ _ _ _ c.in-default.ensures refl c.in-Ok.ensures in
+    let s = stored_well _ _ _ _ _ c.in_default.ensures refl c.in-Ok.ensures in
     let l = c.lay.ensures.rooms in
     let p : length c.lay.result.path.now ≡ path_room = l.0 ∙ sym is_path_room in
     let k : length c.lay.result.clips.now ≡ clip_room = l.1 ∙ sym is_clip_room in
@@ -27,5 +27,5 @@ returns-in-Ok c =
     record {
       opened = e;
       memory = (ap (λ (z : Regions). length z.header) g, p, k);
-      serves = serves_open stage the_printer o _ right (is_carried o (λ i. let f : Fits w8 (get_or c.args.source.now i 0) = c.type-inv.source i in omega arith) (omega arith) (omega arith) (omega arith) (omega arith) (omega arith) (omega arith)) e;
+      serves = serves_open stage the_printer o _ right (is_carried o (λ i. let f : Fits w8 (get_or c.args.source.now i 0) = c.type_inv.source i in omega arith) (omega arith) (omega arith) (omega arith) (omega arith) (omega arith) (omega arith)) e;
     }

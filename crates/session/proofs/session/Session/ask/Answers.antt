@@ -8,7 +8,7 @@ use Rattle.session.proofs.session.Session.ask.Goals as goal
 
 pub returns : goal.returns
 returns c =
-    let e = c.reply-in-reply.ensures in
+    let e = c.reply_in-reply.ensures in
     let kept = c.args.self.kept.now in
     let q = asked_of c.args.question in
     let answer = e.answer kept in
@@ -17,6 +17,6 @@ returns c =
     record {
       answer = answer;
       memory = memory;
-      printer = λ h. ((omega (arith, h), omega (arith, h, c.reply-in-reply.auto.path), omega (arith, h, c.reply-in-reply.auto.clips)), (p h).0, (p h).1);
+      printer = λ h. ((omega (arith, h), omega (arith, h, c.reply_in-reply.auto.path), omega (arith, h, c.reply_in-reply.auto.clips)), (p h).0, (p h).1);
       right = λ j h s. ((p h).0 ∙ serves_says the_printer j _ s q, subst (Serves the_printer j) (sym (p h).1) (serves_next the_printer j _ s q));
     }
