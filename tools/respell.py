@@ -6,8 +6,9 @@ usage: python3 tools/respell.py [--list]     at the top of the repository, once,
 A name that begins with a capital is put in camel case (All-in-range: AllInRange), any other in snake case
 (by-head: by_head). In proofs/ a dash stays after the name of a library function that a lemma is about
 (length-row). Names that the checker makes (goals, invariants, measures) and names of src/ are left alone, and so
-are strings, the words of the job language, inputs and outputs. A name that would become one of the library's, that
-proofs here import, gets _lem at its end. It stops where two names of this repository would become one.
+are strings of src/, the words of the job language, inputs and outputs. A name that would become one of the library's, that
+proofs here import, gets _lem at its end. It stops where two names of this repository's
+definitions and lemmas would become one. A second run changes nothing.
 --list prints the names and changes nothing.
 """
 
@@ -110,7 +111,7 @@ def main():
     if clashes:
         sys.exit("respell: two names would become one: " + ", ".join(clashes))
     # names that port.py turned in specs/ and proofs/, for the documents
-    words |= {b.replace("_", "-"): b for b in stay if "_" in b}
+    words |= {b.replace("_", "-"): b for b in stay if "_" in b and b.replace("_", "-") not in JOB_WORDS}
     changed = 0
     for path in [*files("crates", ".antt", ".rt", ".edit"), *files("docs", ".md"), "README.md"]:
         old = read(path)

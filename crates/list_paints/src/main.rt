@@ -1,8 +1,9 @@
 // Lists what a job paints: page by page each thing with its grey, its clips, its subpaths and its points.
-use anyhow::anyhow;
+use failure::Failure;
 use session::listing::list_paints;
 use std::alloc::{AllocError, Global};
 use std::io::{Read, Write};
+use std::process::ExitCode;
 use std::{env, fs, io};
 use text::refusal::Refusal;
 
@@ -40,13 +41,13 @@ enum Expected {
     Steps,
 }
 
-fn number(heap: Global, text: &str) -> anyhow::Result<u64> {
+fn number(heap: Global, text: &str) -> Result<u64, Failure> {
     if let Ok(n) = text.parse::<u64>() {
         if n <= 1_000_000_000 {
             return Ok(n);
         }
     }
-    Err(anyhow!(format!(in heap;
+    Err(Failure::Said(format!(in heap;
         "--steps takes a whole number from 0 to 1000000000, not '{text}'"
     )?))
 }
@@ -57,7 +58,7 @@ fn take_word(
     o: &mut Options,
     expected: Expected,
     word: String,
-) -> anyhow::Result<Expected> {
+) -> Result<Expected, Failure> {
     match expected {
         Expected::Program => {}
         Expected::Steps => o.steps = number(heap, word.as_str())?,
@@ -66,12 +67,15 @@ fn take_word(
             "--help" => o.help = true,
             _ => {
                 if word.as_str().starts_with("--") {
-                    return Err(anyhow!(format!(in heap;
+                    return Err(Failure::Said(format!(in heap;
                         "unknown option {word}: --help lists the options"
                     )?));
                 }
                 if o.file.is_some() {
-                    return Err(anyhow!("more than one FILE: --help says how it is called"));
+                    return Err(Failure::Said(String::from_str(
+                        heap,
+                        "more than one FILE: --help says how it is called",
+                    )?));
                 }
                 o.file = Some(word);
             }
@@ -80,7 +84,7 @@ fn take_word(
     Ok(Expected::Word)
 }
 
-fn command_line(rt: &HostRuntime) -> anyhow::Result<Options> {
+fn command_line(rt: &HostRuntime) -> Result<Options, Failure> {
     let mut o = Options {
         steps: 1_000_000_000,
         file: None,
@@ -91,7 +95,10 @@ fn command_line(rt: &HostRuntime) -> anyhow::Result<Options> {
         expected = take_word(rt.alloc(), &mut o, expected, word)?;
     }
     match expected {
-        Expected::Steps => Err(anyhow!("--steps lacks its number, as in --steps 1000")),
+        Expected::Steps => Err(Failure::Said(String::from_str(
+            rt.alloc(),
+            "--steps lacks its number, as in --steps 1000",
+        )?)),
         _ => Ok(o),
     }
 }
@@ -123,7 +130,7 @@ fn listing(
     }
 }
 
-fn print_listing(rt: &HostRuntime, source: &[u8], steps: u64) -> anyhow::Result<()> {
+fn print_listing(rt: &HostRuntime, source: &[u8], steps: u64) -> Result<(), Failure> {
     match listing(rt.alloc(), source, steps)? {
         Ok(bytes) => rt.stdout().write_all(bytes.as_slice())?,
         Err(refusal) => {
@@ -135,27 +142,30 @@ fn print_listing(rt: &HostRuntime, source: &[u8], steps: u64) -> anyhow::Result<
     Ok(())
 }
 
-fn run(rt: &HostRuntime) -> anyhow::Result<()> {
+fn run(rt: &HostRuntime) -> Result<(), Failure> {
     let Options { steps, file, help } = command_line(rt)?;
     if help {
         println!(rt; "{USAGE}")?;
         return Ok(());
     }
     let Some(file) = file else {
-        return Err(anyhow!("no FILE: --help says how it is called"));
+        return Err(Failure::Said(String::from_str(
+            rt.alloc(),
+            "no FILE: --help says how it is called",
+        )?));
     };
     match job(rt, file.as_str()) {
         Ok(bytes) => print_listing(rt, bytes.as_slice(), steps),
-        Err(e) => Err(anyhow!(format!(in rt.alloc(); "cannot read {file}: {e}")?)),
+        Err(e) => Err(Failure::Said(format!(in rt.alloc(); "cannot read {file}: {e}")?)),
     }
 }
 
-fn main(rt: HostRuntime) -> anyhow::Result<()> {
+fn main(rt: HostRuntime) -> io::Result<ExitCode> {
     match run(&rt) {
-        Ok(()) => Ok(()),
+        Ok(()) => Ok(ExitCode::SUCCESS),
         Err(e) => {
             eprintln!(rt; "list_paints: {e}")?;
-            Err(e)
+            Ok(ExitCode::FAILURE)
         }
     }
 }

@@ -3,9 +3,10 @@
 
 ghost use Rattle.std.specs.Prelude.{◌≤◌, IfOk};
 
-use anyhow::anyhow;
+use failure::Failure;
 use std::alloc::Global;
 use std::io::Read;
+use std::process::ExitCode;
 use std::{env, fs, io};
 use text::count_tokens;
 
@@ -41,7 +42,7 @@ enum Expected {
 }
 
 // A number that stands behind an option, from 1 to its limit.
-fn number(heap: Global, option: &str, text: &str, limit: u32) -> anyhow::Result<u32>
+fn number(heap: Global, option: &str, text: &str, limit: u32) -> Result<u32, Failure>
     ensures { IfOk result (λ n. (1 ≤ n) × (n ≤ limit)) }
 {
     if let Ok(n) = text.parse::<u32>() {
@@ -49,7 +50,9 @@ fn number(heap: Global, option: &str, text: &str, limit: u32) -> anyhow::Result<
             return Ok(n);
         }
     }
-    Err(anyhow!(format!(in heap; "{option} takes a whole number from 1 to {limit}, not '{text}'")?))
+    Err(Failure::Said(format!(in heap;
+        "{option} takes a whole number from 1 to {limit}, not '{text}'"
+    )?))
 }
 
 // One word of the command line, and what is expected behind it.
@@ -58,7 +61,7 @@ fn take_word(
     o: &mut Options,
     expected: Expected,
     word: String,
-) -> anyhow::Result<Expected> {
+) -> Result<Expected, Failure> {
     match expected {
         Expected::Program => {}
         Expected::Width => o.width = number(heap, "--width", word.as_str(), 8192)?,
@@ -69,7 +72,7 @@ fn take_word(
             "--help" => o.help = true,
             _ => {
                 if word.as_str().starts_with("--") {
-                    return Err(anyhow!(format!(in heap;
+                    return Err(Failure::Said(format!(in heap;
                         "unknown option {word}: --help lists the options"
                     )?));
                 }
@@ -80,7 +83,7 @@ fn take_word(
     Ok(Expected::Word)
 }
 
-fn command_line(rt: &HostRuntime) -> anyhow::Result<Options> {
+fn command_line(rt: &HostRuntime) -> Result<Options, Failure> {
     let heap = rt.alloc();
     let mut o = Options {
         width: 64,
@@ -93,8 +96,14 @@ fn command_line(rt: &HostRuntime) -> anyhow::Result<Options> {
         expected = take_word(heap, &mut o, expected, word)?;
     }
     match expected {
-        Expected::Width => Err(anyhow!("--width lacks its number, as in --width 64")),
-        Expected::Height => Err(anyhow!("--height lacks its number, as in --height 64")),
+        Expected::Width => Err(Failure::Said(String::from_str(
+            heap,
+            "--width lacks its number, as in --width 64",
+        )?)),
+        Expected::Height => Err(Failure::Said(String::from_str(
+            heap,
+            "--height lacks its number, as in --height 64",
+        )?)),
         _ => Ok(o),
     }
 }
@@ -119,7 +128,7 @@ fn print_answer(rt: &HostRuntime, source: &[u8]) -> io::Result<()> {
     }
 }
 
-fn run(rt: &HostRuntime) -> anyhow::Result<()> {
+fn run(rt: &HostRuntime) -> Result<(), Failure> {
     let o = command_line(rt)?;
     if o.help {
         println!(rt; "{USAGE}")?;
@@ -129,18 +138,18 @@ fn run(rt: &HostRuntime) -> anyhow::Result<()> {
         Ok(bytes) => print_answer(rt, bytes.as_slice())?,
         Err(e) => {
             let file = o.file.as_str();
-            return Err(anyhow!(format!(in rt.alloc(); "cannot read {file}: {e}")?));
+            return Err(Failure::Said(format!(in rt.alloc(); "cannot read {file}: {e}")?));
         }
     }
     Ok(())
 }
 
-fn main(rt: HostRuntime) -> anyhow::Result<()> {
+fn main(rt: HostRuntime) -> io::Result<ExitCode> {
     match run(&rt) {
-        Ok(()) => Ok(()),
+        Ok(()) => Ok(ExitCode::SUCCESS),
         Err(e) => {
             eprintln!(rt; "print_job: {e}")?;
-            Err(e)
+            Ok(ExitCode::FAILURE)
         }
     }
 }

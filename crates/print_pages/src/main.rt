@@ -1,7 +1,6 @@
 // Prints a job: its pages as text or as pictures, and how it ends; or by which number and at which place it is refused.
 //
 // words of the command line -> options; the job's bytes -> memory lent for it -> a session -> pages, in chunks of rows
-mod failure;
 mod memory;
 mod options;
 mod pages;
@@ -12,6 +11,7 @@ use options::{Options, command_line};
 use pages::{print_pages, print_refusal};
 use session::session::open;
 use std::io::Read;
+use std::process::ExitCode;
 use std::{fs, io};
 
 const USAGE: &str = "print_job [options] [FILE]
@@ -70,12 +70,12 @@ fn run(rt: &HostRuntime) -> Result<(), Failure> {
     }
 }
 
-fn main(rt: HostRuntime) -> Result<(), Failure> {
+fn main(rt: HostRuntime) -> io::Result<ExitCode> {
     match run(&rt) {
-        Ok(()) => Ok(()),
+        Ok(()) => Ok(ExitCode::SUCCESS),
         Err(e) => {
-            eprintln!(rt; "print_job: {e}")?;
-            Err(e)
+            eprintln!(rt; "print_pages: {e}")?;
+            Ok(ExitCode::FAILURE)
         }
     }
 }

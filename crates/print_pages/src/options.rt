@@ -1,4 +1,4 @@
-use super::failure::Failure;
+use failure::Failure;
 use session::order::Order;
 use std::alloc::Global;
 use std::env;

@@ -1,5 +1,5 @@
-use super::failure::Failure;
 use super::options::{Format, Options, Span};
+use failure::Failure;
 use page_text::lines::{last_line, pgm_head, refusal_line};
 use page_text::page::{Missing, rows_between};
 use page_text::row::push_row;
@@ -8,6 +8,9 @@ use session::session::Session;
 
 // About how many bytes of rows are had at a time.
 const CHUNK: usize = 1_048_576;
+
+// A band of a page that was shown is never refused: that is proved of the session.
+const NO_ROWS: &str = "rows of a shown page were refused: please report this";
 
 // Says by which number and at which place a job or a question is refused.
 pub fn print_refusal(rt: &HostRuntime, number: u8, place: usize) -> Result<(), Failure> {
@@ -48,7 +51,7 @@ fn print_span<'m>(
         let (next, put) = rows_between(s, page, y, y + n, o.band, width, chunk.as_mut_slice());
         s = next;
         if put.is_err() {
-            return Err(Failure::NoRows);
+            return Err(Failure::Said(String::from_str(rt.alloc(), NO_ROWS)?));
         }
         let rows = chunk.as_slice();
         let size = (n as usize * width).min(rows.len());
@@ -125,7 +128,7 @@ pub fn print_pages<'m>(
 ) -> Result<Session<'m>, Failure> {
     let (s, reply) = s.ask(Question::End);
     let Reply::Ended { pages, ending } = reply else {
-        return Err(Failure::NoRows);
+        return Err(Failure::Said(String::from_str(rt.alloc(), NO_ROWS)?));
     };
     let whole = Span {
         from: 0,

@@ -9,6 +9,6 @@ returns c =
     let part = c.args.part.now in
     let out = c.args.out.now in
     let k : at + length part - at ≡ length part = omega arith in
-    ap (λ z. put_mid at (at + length part - at) out z) c.copy-from-slice.ensures.after
+    ap (λ z. put_mid at (at + length part - at) out z) c.copy_from_slice.ensures.after
     ∙ ap (λ z. take at out ++ (part ++ drop z (drop at out))) k
     ∙ ap (λ z. take at out ++ (part ++ z)) (drop-drop (length part) at out)

@@ -11,7 +11,7 @@ returns-then-size-out c =
     let at = c.args.at in
     let out = c.args.out.now in
     record {
-      within = omega (arith, c.copy-at.auto.out);
+      within = omega (arith, c.copy_at.auto.out);
       serves = λ j h s. ((c.ask-s.ensures.printer h).0, (c.ask-s.ensures.right j h s).1);
       right = λ j h s few fits.
           let a = (c.ask-s.ensures.right j h s).0 in
@@ -21,7 +21,7 @@ returns-then-size-out c =
             d.0,
             d.1,
             ap (λ z. at + length z) b ∙ ap (λ z. at + z) n,
-            c.copy-at.ensures ∙ ap (λ z. take at out ++ (z ++ drop (at + length z) out)) b ∙ ap (λ z. take at out ++ (rows (get_or (shown j) c.args.page []) j.wide c.args.row c.args.rows ++ drop (at + z) out)) n,
+            c.copy_at.ensures ∙ ap (λ z. take at out ++ (z ++ drop (at + length z) out)) b ∙ ap (λ z. take at out ++ (rows (get_or (shown j) c.args.page []) j.wide c.args.row c.args.rows ++ drop (at + z) out)) n,
           );
     }
 

@@ -16,8 +16,8 @@ ended start was now row i all before pushed = pushed ∙ ap (λ z. z ++ (10 ∷ 
 pub loop-grey-preserved : goal.loop-grey-preserved
 loop-grey-preserved c =
     one_more (vec_items c.args.text.now) (vec_items c.loop-grey.text) _ c.args.row.now c.loop-grey.grey-index c.mark.result (omega arith) c.loop-grey.invariant c.mark.ensures
-    c.in-ok-push.ensures.items
+    c.in_ok-push.ensures.items
 
 pub returns : goal.returns
 returns c =
-    ended (vec_items c.args.text.now) (vec_items c.loop-grey.text) _ c.args.row.now c.loop-grey.grey-index (omega arith) c.loop-grey.invariant c.in-ok-push-2.ensures.items
+    ended (vec_items c.args.text.now) (vec_items c.loop-grey.text) _ c.args.row.now c.loop-grey.grey-index (omega arith) c.loop-grey.invariant c.in_ok-push-2.ensures.items

@@ -1,5 +1,5 @@
 use Rattle.std.proofs.Common.{◌-◌}
-use Rattle.print_job.proofs.pages.print_span.Given as goal
+use Rattle.print_pages.proofs.pages.print_span.Given as goal
 
 -- each turn prints a row or more
 abbrev pub decreases-loop-y : goal.decreases-loop-y

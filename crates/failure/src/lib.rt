@@ -1,15 +1,15 @@
+// Why a program ends with status 1: each says it with its name in front, on standard error.
+#![tactic(auto)]
+
 use std::alloc::AllocError;
 use std::{fmt, io};
 
-// Why the program ends with status 1.
 #[derive(Drop)]
 pub enum Failure {
-    // what is wrong with its words or its file, and what to do
+    // what is wrong with the program's words or its file, and what to do
     Said(String),
     NoMemory,
     Io(io::Error),
-    // a band of a page that was shown is refused, which is proved never to happen
-    NoRows,
 }
 
 impl From<AllocError> for Failure {
@@ -28,9 +28,8 @@ impl fmt::Display for Failure {
     fn fmt<W: fmt::Write>(&self, f: &mut fmt::Formatter<W>) -> fmt::Result {
         match self {
             Failure::Said(message) => write!(f, "{message}"),
-            Failure::NoMemory => write!(f, "there is too little memory: try a narrower page"),
+            Failure::NoMemory => write!(f, "there is too little memory"),
             Failure::Io(e) => write!(f, "{e}"),
-            Failure::NoRows => write!(f, "rows of a shown page were refused: please report this"),
         }
     }
 }
