@@ -2,7 +2,7 @@
 use Rattle.std.proofs.Common.{◌≡◌, ℕ, suc, ◌-◌, Bool, true, cond, ◌&&◌, ltb, List, [], ◌∷◌, length, refl, ap, ◌∙◌}
 use Rattle.std.proofs.lemmas.Bool.{and_parts, cond-true}
 use Rattle.tokens.specs.Token.{Tokens}
-use Rattle.tokens.specs.Stage.{thin, stage}
+use Rattle.tokens.specs.Stage.{thin, whole}
 use Rattle.lexer.specs.Reading.{Piece, opens, closes, digits, word, slashed, wrong, between, pieces, Fault, fine, at, cannot_read, above_limit, word_limit, Found, operator, no_operator, as_operator, words_after, with_word, build, refused, tokens, unless}
 use Rattle.lexer.specs.Laws.{WiderReads, FirstStageKept}
 use Rattle.lexer.proofs.Faults.{passed}
@@ -42,4 +42,4 @@ wider_reads can also wider bs ts e =
     passing (cannot_read ps (length bs) 0) (above_limit ps also 0 0 []) (ltb (length bs) 16777216) (build ps [] [] []) ts p.0 p.1 (wider_limit can also wider ps 0 0 [] p.2) p.3
 
 pub first_stage_kept : FirstStageKept
-first_stage_kept = wider_reads thin stage (λ k e. e)
+first_stage_kept = wider_reads thin whole (λ k e. refl)

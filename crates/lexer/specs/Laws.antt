@@ -1,7 +1,7 @@
 -- Laws of reading, each a statement whose proof is owed where a function's contract names it. Assumes nothing: these are definitions.
 use Rattle.std.specs.Prelude.{◌≡◌, ℕ, ◌+◌, ◌<◌, Bool, true, List, ◌∷◌, ◌++◌, length}
 use Rattle.tokens.specs.Token.{Tokens}
-use Rattle.tokens.specs.Stage.{thin, stage}
+use Rattle.tokens.specs.Stage.{thin, whole}
 use Rattle.lexer.specs.Reading.{Read, refused, tokens, read}
 
 -- a text with one more space where there is one reads the same: the same tokens, or refused by the same number
@@ -18,6 +18,6 @@ SpacesFree = (can : ℕ → Bool) (xs ys : List ℕ) → length xs + length ys <
 abbrev pub WiderReads : Type 0
 WiderReads = (can also : ℕ → Bool) → ((k : ℕ) → can k ≡ true → also k ≡ true) → (bs : List ℕ) (ts : Tokens) → read can bs ≡ tokens ts → read also bs ≡ tokens ts
 
--- so texts of the first stage keep their tokens
+-- so texts of the first stage keep their tokens where every operator may be done
 abbrev pub FirstStageKept : Type 0
-FirstStageKept = (bs : List ℕ) (ts : Tokens) → read thin bs ≡ tokens ts → read stage bs ≡ tokens ts
+FirstStageKept = (bs : List ℕ) (ts : Tokens) → read thin bs ≡ tokens ts → read whole bs ≡ tokens ts

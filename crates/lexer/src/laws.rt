@@ -15,7 +15,7 @@ pub fn wider_reads() -> u8
     0
 }
 
-// A text of the first stage is still the same tokens.
+// A text of the first stage is the same tokens where every operator may be done.
 pub fn first_stage_kept() -> u8
     ensures { FirstStageKept }
 {

@@ -1,6 +1,6 @@
 use session::order::Order;
 use std::alloc::Global;
-use text::count_tokens;
+use whole_text::count_tokens;
 
 // What a session needs besides two numbers for each token and what may be kept: a header, a path and clips.
 const FIXED: u64 = 6148;

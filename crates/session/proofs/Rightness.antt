@@ -4,7 +4,7 @@ use lib.ListN.{length-replicate}
 use Rattle.std.proofs.lemmas.Bool.{lt-ltb, le-leb, ltb-true, leb-true, cases_Bool, leb-false, lt-leb, cond_both, and_parts, and_from, and_left, and_right}
 use Rattle.tokens.specs.Token.{Tokens, size, AllInRange}
 use Rattle.tokens.specs.Stored.{decode, all_stored}
-use Rattle.tokens.specs.Stage.{stage}
+use Rattle.tokens.specs.Stage.{whole}
 use Rattle.tokens.proofs.Decoding.{stored_reads_back}
 use Rattle.lexer.specs.Reading.{Read, tokens, read}
 use Rattle.lexer.specs.Reading as reading
@@ -167,16 +167,16 @@ small o e =
     record { steps = ltb-true _ _ a.0; wide = ltb-true _ _ b.0; tall = ltb-true _ _ c.0; kept = ltb-true _ _ d.0; lent = ltb-true _ _ f.0 }
 
 -- what was stored is run as the text's tokens are by the whole machine
-pub runs_whole : (ts : Tokens) (n : ℕ) → AllInRange stage ts → run n (begin (decode (all_stored ts))) ≡ run n (begin ts)
-runs_whole ts n fit = ap (λ z. run n (begin z)) (stored_reads_back stage ts fit)
+pub runs_whole : (ts : Tokens) (n : ℕ) → AllInRange whole ts → run n (begin (decode (all_stored ts))) ≡ run n (begin ts)
+runs_whole ts n fit = ap (λ z. run n (begin z)) (stored_reads_back whole ts fit)
 
-stored_run : (o : Order) (ts : Tokens) → Sized o → AllInRange stage ts → run_of (all_stored ts) (o.steps ∷ (o.wide ∷ (o.tall ∷ (o.kept ∷ [])))) ≡ run o.steps (begin ts)
+stored_run : (o : Order) (ts : Tokens) → Sized o → AllInRange whole ts → run_of (all_stored ts) (o.steps ∷ (o.wide ∷ (o.tall ∷ (o.kept ∷ [])))) ≡ run o.steps (begin ts)
 unfolding run_of
 stored_run o ts s fit =
     let n : min o.steps 1000000000 ≡ o.steps = omega (arith, s.steps) in
     ap (λ z. run z (begin (decode (all_stored ts)))) n ∙ runs_whole ts o.steps fit
 
-first_holds : (o : Order) (ts : Tokens) → Sized o → AllInRange stage ts → Holds o ts (first_regions o ts)
+first_holds : (o : Order) (ts : Tokens) → Sized o → AllInRange whole ts → Holds o ts (first_regions o ts)
 first_holds o ts s fit =
     record {
       header = refl;
@@ -199,7 +199,7 @@ header_below : (o : Order) → Small o → all_below word (o.steps ∷ (o.wide �
 unfolding all_below
 header_below o h = and_from _ _ (lt-ltb _ _ h.steps) (and_from _ _ (lt-ltb _ _ h.wide) (and_from _ _ (lt-ltb _ _ h.tall) (and_from _ _ (lt-ltb _ _ h.kept) refl)))
 
-fine_joined : (o : Order) (ts : Tokens) (g : Regions) → Small o → Holds o ts g → g.text ≡ all_stored ts → AllInRange stage ts → words_asked o ts ≤ o.words_lent → 64 * o.wide ≤ o.bytes_lent → Fine o (joined g)
+fine_joined : (o : Order) (ts : Tokens) (g : Regions) → Small o → Holds o ts g → g.text ≡ all_stored ts → AllInRange whole ts → words_asked o ts ≤ o.words_lent → 64 * o.wide ≤ o.bytes_lent → Fine o (joined g)
 fine_joined o ts g n h e fit k l =
     let s = shape o ts g h in
     let a = length-append g.header (g.path ++ (g.clips ++ g.kept)) in
@@ -213,15 +213,15 @@ fine_joined o ts g n h e fit k l =
       omega (arith, s.0, s.1, s.2),
       omega (arith, h.bytes),
       omega (arith, s.0, s.1, s.2),
-      ap (all_below word) e ∙ stored_below stage ts fit (omega (arith, n.lent)),
+      ap (all_below word) e ∙ stored_below whole ts fit (omega (arith, n.lent)),
       below_append word g.header _ (ap (all_below word) h.header ∙ header_below o n)
           (below_append word g.path _ (ap (all_below word) h.path ∙ zero_words path_room)
           (below_append word g.clips _ (ap (all_below word) h.clips ∙ zero_words clip_room) (ap (all_below word) h.kept ∙ zero_words o.kept))),
       h.below,
     )
 
-opened_well : (o : Order) (ts : Tokens) → Small o → AllInRange stage ts → good_size o.steps o.wide o.tall ≡ true → words_asked o ts ≤ o.words_lent → 64 * o.wide ≤ o.bytes_lent →
-    GoodOpening stage the_printer o (tokens ts) (ready (joined (first_regions o ts)))
+opened_well : (o : Order) (ts : Tokens) → Small o → AllInRange whole ts → good_size o.steps o.wide o.tall ≡ true → words_asked o ts ≤ o.words_lent → 64 * o.wide ≤ o.bytes_lent →
+    GoodOpening whole the_printer o (tokens ts) (ready (joined (first_regions o ts)))
 unfolding GoodOpening
 opened_well o ts n fit e k l =
     let s = sized o e in
@@ -240,17 +240,17 @@ too_few_words o ts e = let r = rooms in let k = leb-false _ _ e in and_left _ _ 
 too_few_bytes : (o : Order) (ts : Tokens) → leb (64 * o.wide) o.bytes_lent ≡ false → lent_enough o ts ≡ false
 too_few_bytes o ts e = let k = leb-false _ _ e in and_right _ _ (lt-leb (64 * o.wide + 4096) o.bytes_lent (omega arith))
 
-good_at : (o : Order) (r : Read) → Small o → ((ts : Tokens) → r ≡ tokens ts → AllInRange stage ts) → GoodOpening stage the_printer o r (opened_by o r)
+good_at : (o : Order) (r : Read) → Small o → ((ts : Tokens) → r ≡ tokens ts → AllInRange whole ts) → GoodOpening whole the_printer o r (opened_by o r)
 unfolding GoodOpening opened_by
 good_at o (reading.Read.refused k p) n fit = (refl, refl)
 good_at o (tokens ts) n fit =
-    let Good = GoodOpening stage the_printer o (tokens ts) in
+    let Good = GoodOpening whole the_printer o (tokens ts) in
     cond_both (good_size o.steps o.wide o.tall) _ _ Good
     (λ g. cond_both (leb (words_asked o ts) o.words_lent) _ _ Good
     (λ k. cond_both (leb (64 * o.wide) o.bytes_lent) _ _ Good (λ l. opened_well o ts n (fit ts refl) g (leb-true _ _ k) (leb-true _ _ l)) (λ l. inr (refl, omega arith, too_few_bytes o ts l, g)))
     (λ k. inr (refl, omega arith, too_few_words o ts k, g)))
     (λ g. inl (refl, refl, g))
 
-pub right : Right stage the_printer
+pub right : Right whole the_printer
 unfolding Right
-right o e = good_at o (read stage o.bytes) (small o e) (λ ts f. read_in_range stage o.bytes ts f)
+right o e = good_at o (read whole o.bytes) (small o e) (λ ts f. read_in_range whole o.bytes ts f)

@@ -3,10 +3,10 @@ use Rattle.std.proofs.Common.{◌≡◌, ℕ, ◌+◌, ◌≤◌, min, List, ◌
 use Rattle.std.proofs.lemmas.List.{take_at, drop_at, drop-drop, take-take, length-take-le}
 use Rattle.tokens.specs.Token.{Tokens}
 use Rattle.tokens.specs.Stored.{decode, all_stored}
-use Rattle.tokens.specs.Stage.{stage}
+use Rattle.tokens.specs.Stage.{whole}
 use Rattle.lexer.specs.Reading.{Read, refused, tokens, read}
 use Rattle.lexer.proofs.Ranges.{read_in_range}
-use Rattle.text.specs.Storing.{StoredAs}
+use Rattle.whole_text.specs.Storing.{StoredAs}
 use Rattle.machine.specs.Machine.{run, begin}
 use Rattle.machine.specs.Laws.{state_of}
 use Rattle.listing.specs.Lines.{listing_of}
@@ -47,8 +47,8 @@ stored_as (tokens ts) steps n used ws vs whole j s =
           ∙ drop-drop 6144 used ws;
     }
 
-pub stored_to_list : (bs : List ℕ) (steps n used : ℕ) (ws vs : List ℕ) → Judged (Ok n) (read stage bs) steps (length ws) → StoredAs (Ok used) (read stage bs) ws vs → Stored (read stage bs) steps n used ws vs
-stored_to_list bs steps n used ws vs = stored_as (read stage bs) steps n used ws vs (λ ts k e. ap (λ w. listing_of (state_of w)) (runs_whole ts k (read_in_range stage bs ts e)))
+pub stored_to_list : (bs : List ℕ) (steps n used : ℕ) (ws vs : List ℕ) → Judged (Ok n) (read whole bs) steps (length ws) → StoredAs (Ok used) (read whole bs) ws vs → Stored (read whole bs) steps n used ws vs
+stored_to_list bs steps n used ws vs = stored_as (read whole bs) steps n used ws vs (λ ts k e. ap (λ w. listing_of (state_of w)) (runs_whole ts k (read_in_range whole bs ts e)))
 
 -- what a run for the listing then leaves is what is promised
 pub is_listed : {d : Read} {steps n used : ℕ} {ws vs : List ℕ} → Stored d steps n used ws vs → (m r : ℕ) (bs front cs : List ℕ) → m ≡ used + 6144 → length vs ≡ length ws →

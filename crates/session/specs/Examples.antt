@@ -1,6 +1,6 @@
 -- Two small jobs with their pages, as statements about the definitions alone, each owed where a function's contract names it. Assumes nothing: these are definitions.
 use Rattle.std.specs.Prelude.{◌≡◌, ℕ, cond, List, ◌++◌, map, codes, ◌==◌}
-use Rattle.tokens.specs.Stage.{stage}
+use Rattle.tokens.specs.Stage.{whole}
 use Rattle.lexer.specs.Reading.{Read, tokens, read}
 use Rattle.lexer.specs.Reading as reading
 use Rattle.session.specs.Jobs.{band, Answer, dots, refused, answer}
@@ -15,7 +15,7 @@ abbrev pub drawn : List ℕ → List ℕ
 drawn picture = map (λ c. cond (c == 35) 0 255) picture
 
 abbrev pub Prints : List ℕ → ℕ → ℕ → List ℕ → Type 0
-Prints text w h picture = first_page (read stage text) w h ≡ dots (drawn picture)
+Prints text w h picture = first_page (read whole text) w h ≡ dots (drawn picture)
 
 abbrev pub EmptyPagePrints : Type 0
 EmptyPagePrints = Prints (codes "shows") 4 2 (codes "...." ++ codes "....")

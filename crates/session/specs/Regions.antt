@@ -2,7 +2,7 @@
 use Rattle.std.specs.Prelude.{◌≡◌, ℕ, ◌+◌, ◌*◌, min, cond, ◌&&◌, List, [], ◌∷◌, ◌++◌, length, take, drop, replicate, nat_le, nat_lt, slice_index, slice_index_or}
 use Rattle.tokens.specs.Token.{Tokens, size}
 use Rattle.tokens.specs.Stored.{decode, all_stored}
-use Rattle.tokens.specs.Stage.{stage}
+use Rattle.tokens.specs.Stage.{whole}
 use Rattle.lexer.specs.Reading.{Read, tokens, read}
 use Rattle.lexer.specs.Reading as reading
 use Rattle.path.specs.Path.{Paint}
@@ -122,7 +122,7 @@ opened_by o (tokens ts) =
     (turned_away 2 0)
 
 abbrev pub opens_as : Order → Opened
-opens_as o = opened_by o (read stage o.bytes)
+opens_as o = opened_by o (read whole o.bytes)
 
 abbrev pub the_printer : Printer
 the_printer = record { opens = opens_as; next = λ m q. joined (next_in (cut m) q); says = λ m q. says_in (cut m) q }

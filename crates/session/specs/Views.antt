@@ -1,11 +1,11 @@
 -- The code's sessions, orders, questions and replies as those of the promises. Cited by the contracts of `open` and `ask`. Assumes nothing: these are definitions.
 use Rattle.std.specs.Prelude.{◌≡◌, ℕ, ◌+◌, ◌*◌, ◌≤◌, true, false, ◌&&◌, List, take, Some, None, Ok, Err, Option, Result, nat_le}
 use Rattle.tokens.specs.Token.{Tokens, size}
-use Rattle.tokens.specs.Stage.{stage}
+use Rattle.tokens.specs.Stage.{whole}
 use Rattle.lexer.specs.Reading.{Read, tokens, read}
 use Rattle.lexer.specs.Reading as reading
-use Rattle.text.specs.declared.refusal.Refusal.{Refusal}
-use Rattle.text.specs.Refusing.{refusal_number, refusal_place}
+use Rattle.whole_text.specs.declared.refusal.Refusal.{Refusal}
+use Rattle.whole_text.specs.Refusing.{refusal_number, refusal_place}
 use Rattle.session.specs.Jobs.{Asked, how_it_ends, band, Answer, ended, dots, refused}
 use Rattle.session.specs.Promise.{Memory, Opened, turned_away, ready, Order, job_of, Serves}
 use Rattle.session.specs.Regions.{Regions, joined, width_in, height_in, first_regions, opened_by, the_printer}
@@ -61,7 +61,7 @@ Admitted (Ok u) o (tokens ts) =
 
 -- an opened session serves the job of its text: every list of questions gets the written machine's answers
 abbrev pub OpenedRight : Result Session Refused → Order → Type 0
-OpenedRight (Ok s) o = (ts : Tokens) × (read stage o.bytes ≡ tokens ts) × Serves the_printer (job_of o ts) (memory_of s)
+OpenedRight (Ok s) o = (ts : Tokens) × (read whole o.bytes ≡ tokens ts) × Serves the_printer (job_of o ts) (memory_of s)
 OpenedRight (Err e) o = Unit {0}
 
 -- the band of so many rows from a row on, if there are such rows on a page and room for them in the bytes

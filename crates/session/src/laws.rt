@@ -1,5 +1,5 @@
 // The main promise, and two small jobs with their pages, each the contract of a function that only carries it.
-ghost use Rattle.tokens.specs.Stage.{stage};
+ghost use Rattle.tokens.specs.Stage.{whole};
 ghost use Rattle.session.specs.Examples.{EmptyPagePrints, SquarePrints};
 ghost use Rattle.session.specs.Promise.{Right};
 ghost use Rattle.session.specs.Regions.{the_printer};
@@ -7,7 +7,7 @@ ghost use Rattle.session.specs.Regions.{the_printer};
 // Every text is refused by the first number that applies, at its place, or opened; and then every list of questions, in
 // any order and of any heights, gets the answers of the written machine, which runs the job once.
 pub fn printer_is_right() -> u8
-    ensures { Right stage the_printer }
+    ensures { Right whole the_printer }
 {
     0
 }

@@ -1,5 +1,5 @@
 ghost use Rattle.std.specs.Prelude.{◌≡◌, ◌+◌, ◌≤◌, min, ◌++◌, length, take, drop, replicate, if◌then◌else◌, Some, None, nat_le};
-ghost use Rattle.tokens.specs.Stage.{stage};
+ghost use Rattle.tokens.specs.Stage.{whole};
 ghost use Rattle.tokens.specs.Stored.{decode};
 ghost use Rattle.lexer.specs.Reading.{read};
 ghost use Rattle.machine.specs.Machine.{run, begin};
@@ -9,8 +9,8 @@ ghost use Rattle.session.specs.Listed.{listed_by, ListedAs, Judged};
 
 use super::layout::{CLIPS, PATH, words_left, zero_words};
 use listing::things::list_things;
-use text::refusal::Refusal;
-use text::{count_tokens, store_tokens};
+use whole_text::refusal::Refusal;
+use whole_text::{count_tokens, store_tokens};
 
 // The steps, if a job may take so many.
 fn few_enough(steps: u64) -> Option<u32>
@@ -26,7 +26,7 @@ fn few_enough(steps: u64) -> Option<u32>
 // Whether a text is listed in so many lent words, and then the steps; or by which refusal, the first that applies, it
 // is not.
 fn judge(source: &[u8], steps: u64, words: usize) -> Result<u32, Refusal>
-    ensures { Judged result (read stage source.now) steps words }
+    ensures { Judged result (read whole source.now) steps words }
 {
     let tokens = count_tokens(source)?;
     let Some(steps) = few_enough(steps) else {
@@ -61,7 +61,7 @@ pub fn list_paints(
     words: &mut [u64],
     bytes: &mut [u8],
 ) -> Result<u64, Refusal>
-    ensures { ListedAs result (listed_by (read stage source.now) steps (length words.old)) words.old bytes.old words.new bytes.new }
+    ensures { ListedAs result (listed_by (read whole source.now) steps (length words.old)) words.old bytes.old words.new bytes.new }
 {
     let steps = judge(source, steps, words.len())?;
     let used = store_tokens(source, words)?;

@@ -1,5 +1,5 @@
 ghost use Rattle.std.specs.Prelude.{◌≡◌, ◌+◌, ◌*◌, ◌≤◌, [], ◌∷◌, length, take, replicate, Ok, Err};
-ghost use Rattle.tokens.specs.Stage.{stage};
+ghost use Rattle.tokens.specs.Stage.{whole};
 ghost use Rattle.lexer.specs.Reading.{read};
 ghost use Rattle.session.specs.Jobs.{Job, answer};
 ghost use Rattle.session.specs.Promise.{Serves};
@@ -10,8 +10,8 @@ use super::layout::{CLIPS, HEADER, PATH, ROWS, in_range, words_left, zero_all, z
 use super::order::{Order, Refused};
 use super::question::{Question, Reply};
 use super::reply::reply_in;
-use text::refusal::Refusal;
-use text::{count_tokens, store_tokens};
+use whole_text::refusal::Refusal;
+use whole_text::{count_tokens, store_tokens};
 
 // The lent memory of an opened job, cut into its regions.
 #[derive(Drop)]
@@ -62,7 +62,7 @@ fn lay<'m>(used: usize, order: Order, words: &'m mut [u64], bytes: &'m mut [u8])
 
 // Whether a job is opened in so much lent memory, or by which refusal, the first that applies, it is not.
 fn admit(source: &[u8], order: Order, words: usize, bytes: usize) -> Result<(), Refusal>
-    ensures { Admitted result (order_of source.now order words bytes) (read stage source.now) }
+    ensures { Admitted result (order_of source.now order words bytes) (read whole source.now) }
 {
     let tokens = count_tokens(source)?;
     let Some(order) = in_range(order) else {

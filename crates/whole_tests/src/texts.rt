@@ -5,7 +5,7 @@ use whole_machine::outside::number_of_fault;
 use path::extent::Extent;
 use whole_run::drive::{Ending, Sink};
 use whole_run::job::run_job;
-use text::store_tokens;
+use whole_text::store_tokens;
 
 // how many steps a job may take where nothing else is said
 const PLENTY: u32 = 10000;

@@ -1,6 +1,6 @@
 use Rattle.std.proofs.Common.{◌≡◌, ◌*◌, Err, sym, ap, ◌∙◌, subst, arith}
 use Rattle.std.proofs.lemmas.Result.{err_from_is_err_and}
-use Rattle.tokens.specs.Stage.{stage}
+use Rattle.tokens.specs.Stage.{whole}
 use Rattle.lexer.specs.Reading.{read}
 use Rattle.session.specs.Views.{order_of, Admitted}
 use Rattle.session.specs.declared.order.Order.{Order}
@@ -10,7 +10,7 @@ use Rattle.session.proofs.session.admit.Goals as goal
 pub returns-in_err-tokens : goal.returns-in_err-tokens
 returns-in_err-tokens c =
     let o = order_of c.args.source.now c.args.order c.args.words c.args.bytes in
-    let d = read stage c.args.source.now in
+    let d = read whole c.args.source.now in
     let q = err_from_is_err_and c.from_residual.result c.from_residual.ensures.1 in
     subst (λ r. Admitted r o d) (sym (q.1 ∙ ap Err q.2)) (refused_text o d c.in_err-tokens.field-0.0 c.in_err-tokens.ensures)
 

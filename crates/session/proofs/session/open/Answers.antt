@@ -1,5 +1,5 @@
 use Rattle.std.proofs.Common.{◌≡◌, ℕ, length, get_or, replicate, sym, refl, ap, ◌∙◌, arith, w8, Fits}
-use Rattle.tokens.specs.Stage.{stage}
+use Rattle.tokens.specs.Stage.{whole}
 use Rattle.session.specs.Promise.{ready}
 use Rattle.session.specs.Regions.{Regions, joined, path_room, clip_room, opens_as, the_printer}
 use Rattle.session.specs.Views.{order_of, regions_of}
@@ -27,5 +27,5 @@ returns-in-Ok c =
     record {
       opened = e;
       memory = (ap (λ (z : Regions). length z.header) g, p, k);
-      serves = serves_open stage the_printer o _ right (is_carried o (λ i. let f : Fits w8 (get_or c.args.source.now i 0) = c.type_inv.source i in omega arith) (omega arith) (omega arith) (omega arith) (omega arith) (omega arith) (omega arith)) e;
+      serves = serves_open whole the_printer o _ right (is_carried o (λ i. let f : Fits w8 (get_or c.args.source.now i 0) = c.type_inv.source i in omega arith) (omega arith) (omega arith) (omega arith) (omega arith) (omega arith) (omega arith)) e;
     }

@@ -1,0 +1,4 @@
+pub mod Judging
+pub mod Limiting
+pub mod Passing
+pub mod Storing

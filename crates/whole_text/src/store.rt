@@ -1,0 +1,118 @@
+ghost use Rattle.std.specs.Prelude.{◌≡◌, ◌+◌, ◌-◌, ◌*◌, ◌≤◌, [], ◌++◌, length, drop, slice_set};
+ghost use Rattle.lexer.specs.Reading.{build, read};
+ghost use Rattle.lexer.specs.Lexing.{from};
+ghost use Rattle.whole_words.specs.Naming.{known_in};
+ghost use Rattle.tokens.specs.Stage.{whole};
+ghost use Rattle.tokens.specs.Stored.{all_stored};
+ghost use Rattle.whole_text.specs.Storing.{begun_with, Ready, StoredRow, StoredAs};
+
+use super::check::count_tokens;
+use super::refusal::Refusal;
+use lexer::{Lexeme, lexeme_at};
+use tokens::{Token, number};
+use whole_words::meaning::plain_token;
+use whole_words::names::NAMES;
+
+// Where storing stands: the next byte of the text, the next word, and how many names are known.
+#[derive(Clone, Copy)]
+struct Progress {
+    at: usize,
+    used: usize,
+    known: usize,
+}
+
+// The two words that a token begins with.
+fn begun(token: Token) -> (u64, u64)
+    ensures { result ≡ begun_with token.entry }
+{
+    match token {
+        Token::Number(n) => (0, n as u64),
+        Token::Does(op) => (1, number(op) as u64),
+        Token::Name(k) => (2, k as u64),
+        Token::Quoted(k) => (3, k as u64),
+        Token::Body(words) => (4, words.len() as u64),
+    }
+}
+
+fn put(words: &mut [u64], at: usize, head: (u64, u64))
+    requires { at + 2 ≤ length words.old }
+    ensures { words.new ≡ slice_set (slice_set words.old at head.0) (at + 1) head.1 }
+{
+    words[at] = head.0;
+    words[at + 1] = head.1;
+}
+
+// Stores a row of tokens: up to the end of the text, or past the brace that closes the row.
+// At most `depth` braces may be opened in it, which the text's limits hold.
+fn store_row<'a>(
+    source: &'a [u8],
+    names: &mut [&'a [u8]],
+    words: &mut [u64],
+    start: Progress,
+    depth: u8,
+) -> Progress
+    requires names { (length names.old ≡ 256) × ((start.known ≤ 256) × (depth ≤ 32)) }
+    requires ready { Ready (length source.now) (32 - depth) start.used (length words.old) (from source.now start.at) (known_in names.old start.known) }
+    ensures row { StoredRow (length source.now) (32 - depth) (from source.now start.at) (known_in names.old start.known) start.used words.old (from source.now result.at) (known_in names.new result.known) result.used words.new }
+    ensures bound { (result.known ≤ 256) × (start.at ≤ result.at) }
+{
+    let mut p = start;
+    loop {
+        let (lexeme, next) = lexeme_at(source, p.at);
+        match lexeme {
+            Lexeme::End | Lexeme::Wrong { .. } => return p,
+            Lexeme::Close { .. } => {
+                p.at = next;
+                return p;
+            }
+            Lexeme::Open { .. } => {
+                if depth == 0 {
+                    return p;
+                }
+                let header = p.used;
+                p.at = next;
+                p.used += 2;
+                let after = store_row(source, names, words, p, depth - 1);
+                put(words, header, (4, (after.used - p.used) as u64));
+                p = after;
+            }
+            _ => {
+                let Some((token, known)) = plain_token(lexeme, names, p.known) else {
+                    return p;
+                };
+                put(words, p.used, begun(token));
+                p.at = next;
+                p.used += 2;
+                p.known = known;
+            }
+        }
+    }
+}
+
+// Stores the tokens of a text that has passed its checks, and says how many words they took.
+fn store_all<'a>(source: &'a [u8], names: &mut [&'a [u8]], words: &mut [u64]) -> usize
+    requires names { length names.old ≡ 256 }
+    requires ready { Ready (length source.now) 0 0 (length words.old) (from source.now 0) [] }
+    ensures value { result ≡ length (all_stored (build (from source.now 0) [] [] [])) }
+    ensures after { words.new ≡ all_stored (build (from source.now 0) [] [] []) ++ drop result words.old }
+{
+    let start = Progress {
+        at: 0,
+        used: 0,
+        known: 0,
+    };
+    store_row(source, names, words, start, 32).used
+}
+
+// Stores a text's tokens at the front of the words, two words for each and none for a closing brace,
+// and says how many words they took; or why and where the text is refused, with all words as they were.
+pub fn store_tokens(source: &[u8], words: &mut [u64]) -> Result<usize, Refusal>
+    ensures { StoredAs result (read whole source.now) words.old words.new }
+{
+    let count = count_tokens(source)?;
+    if words.len() / 2 < count {
+        return Err(Refusal::TooLittleMemory { place: 0 });
+    }
+    let mut names = [&source[0..0]; NAMES];
+    Ok(store_all(source, &mut names, words))
+}
