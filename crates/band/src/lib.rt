@@ -14,5 +14,7 @@
 // Nothing of the job is held but what the run itself holds (crate run).
 //
 // sink: who takes the run's events for a band. page: a run with it.
+#![tactic(auto)]
+
 pub mod page;
 pub mod sink;

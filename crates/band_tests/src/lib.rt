@@ -2,6 +2,7 @@
 //
 // A job's point (x, y) is the corner of dot x in row y, so a square from (1, 1) to (3, 2) covers the
 // dots 1 and 2 of row 1. Behind the rows stands one byte more. No expected byte is taken from a run.
+#![tactic(auto)]
 
 #[cfg(test)]
 mod tests {

@@ -1,5 +1,7 @@
 // Prints jobs through the functions that the printing program uses, at several heights of bands and amounts kept, and
 // says whether all come out the same; asks questions in odd orders; and opens orders at their limits and beyond.
+#![tactic(auto)]
+
 mod jobs;
 mod orders;
 mod printed;

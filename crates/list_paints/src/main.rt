@@ -1,4 +1,6 @@
 // Lists what a job paints: page by page each thing with its grey, its clips, its subpaths and its points.
+#![tactic(auto)]
+
 use failure::Failure;
 use session::listing::list_paints;
 use std::alloc::{AllocError, Global};

@@ -24,6 +24,8 @@
 //
 // writer: text over lent bytes. lines: the lines of things and pages; all reading of stored paths is there. sink: who
 // takes the run's events. things: a run with it.
+#![tactic(auto)]
+
 mod lines;
 pub mod sink;
 pub mod things;

@@ -1,4 +1,5 @@
 // Listings worked out by hand: clips, points between dots, and text that is cut short.
+#![tactic(auto)]
 
 #[cfg(test)]
 mod tests {

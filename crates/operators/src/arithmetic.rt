@@ -3,9 +3,9 @@ ghost use Rattle.tokens.specs.Token.{adds, takes, multiplies, divides, is_less};
 ghost use Rattle.machine.specs.Machine.{operate, push_number};
 ghost use Rattle.whole_machine.specs.Abstraction.{Past, state, stack_of, after};
 
+use path::builder::Path;
 use whole_machine::event::{Event, Fault};
 use whole_machine::state::{Machine, Value};
-use path::builder::Path;
 
 // results are below this
 const BOUND: u64 = 2147483648;

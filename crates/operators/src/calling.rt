@@ -3,9 +3,9 @@ ghost use Rattle.tokens.specs.Token.{defines, repeats, when};
 ghost use Rattle.machine.specs.Machine.{operate, call, found};
 ghost use Rattle.whole_machine.specs.Abstraction.{Past, state, names_of, after};
 
+use path::builder::Path;
 use whole_machine::event::{Event, Fault};
 use whole_machine::state::{Machine, Value};
-use path::builder::Path;
 
 // a name means a value from now on
 pub(crate) fn define<'s, 'a>(m: &mut Machine<'s, 'a>) -> Result<Event, Fault>

@@ -3,9 +3,9 @@ ghost use Rattle.tokens.specs.Token.{moves, lines, fills, shows};
 ghost use Rattle.machine.specs.Machine.{operate};
 ghost use Rattle.whole_machine.specs.Abstraction.{Past, state, after, after_event};
 
+use path::builder::Path;
 use whole_machine::event::{Event, Fault};
 use whole_machine::state::Machine;
-use path::builder::Path;
 
 // a new subpath begins at a point
 pub(crate) fn move_to<'s, 'a>(m: &mut Machine<'s, 'a>, path: &mut Path<'_>) -> Result<Event, Fault>

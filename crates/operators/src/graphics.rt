@@ -3,9 +3,9 @@ ghost use Rattle.tokens.specs.Token.{clips_by, greys, shifts, scales};
 ghost use Rattle.machine.specs.Machine.{operate};
 ghost use Rattle.whole_machine.specs.Abstraction.{Past, state, after};
 
+use path::builder::Path;
 use whole_machine::event::{Event, Fault};
 use whole_machine::state::Machine;
-use path::builder::Path;
 
 // the lightest grey
 const WHITE: u32 = 255;

@@ -6,6 +6,8 @@
 // definitions, and changes the machine only when nothing is refused any more.
 //
 // arithmetic, stack, calling, drawing, graphics: the operators. perform: which does what. stepping: a step.
+#![tactic(auto)]
+
 mod arithmetic;
 mod calling;
 mod drawing;

@@ -8,10 +8,10 @@ use crate::calling::{branch, define, repeat};
 use crate::drawing::{line_to, move_to, paint_path, show_page};
 use crate::graphics::{change_grey, change_scale, clip, shift};
 use crate::stack::{copy, discard, swap};
-use whole_machine::event::{Event, Fault};
-use whole_machine::state::Machine;
 use path::builder::Path;
 use tokens::Operator;
+use whole_machine::event::{Event, Fault};
+use whole_machine::state::Machine;
 
 // what an operator does
 pub(crate) fn perform<'s, 'a>(

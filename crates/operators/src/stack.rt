@@ -3,9 +3,9 @@ ghost use Rattle.tokens.specs.Token.{copies, drops, swaps};
 ghost use Rattle.machine.specs.Machine.{operate};
 ghost use Rattle.whole_machine.specs.Abstraction.{Past, state, after};
 
+use path::builder::Path;
 use whole_machine::event::{Event, Fault};
 use whole_machine::state::Machine;
-use path::builder::Path;
 
 pub(crate) fn copy<'s, 'a>(m: &mut Machine<'s, 'a>) -> Result<Event, Fault>
     ensures { (p : Path) (t : Past) → after result m.new p t ≡ operate (state m.old p t) copies }

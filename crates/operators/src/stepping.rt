@@ -4,10 +4,10 @@ ghost use Rattle.whole_machine.specs.Abstraction.{Past, state, after};
 
 use crate::calling::call_name;
 use crate::perform::perform;
-use whole_machine::event::{Event, Fault};
-use whole_machine::state::{Frame, Machine, Value};
 use path::builder::Path;
 use tokens::{Token, next_token};
+use whole_machine::event::{Event, Fault};
+use whole_machine::state::{Frame, Machine, Value};
 
 // the next token of the innermost frame, or its body again, or back to the frame around it
 pub fn step<'s, 'a>(m: &mut Machine<'s, 'a>, path: &mut Path<'_>) -> Result<Event, Fault>

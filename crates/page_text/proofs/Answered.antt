@@ -1,8 +1,8 @@
 -- What an answer to the question for a band says of the job.
-use Rattle.std.proofs.Common.{◌≡◌, ℕ, ◌+◌, ◌<◌, ◌≤◌, Bool, true, false, cond, ◌&&◌, ltb, leb, ◌⊎◌, List, [], length, get_or, Ok, Err, Result, sym, refl, ap, ◌∙◌, inl, inr, arith}
+use Rattle.std.proofs.Common.{◌≡◌, ℕ, ◌+◌, ◌<◌, ◌≤◌, true, false, ◌&&◌, ltb, leb, ◌⊎◌, List, [], length, get_or, Ok, Err, sym, refl, inl, inr, arith}
 use Rattle.std.proofs.lemmas.Bool.{lt-ltb, le-ltb, le-leb, lt-leb, and_from, and_left, cases_lt}
 use Rattle.raster.specs.Coverage.{rows}
-use Rattle.session.specs.Jobs.{Job, shown, band, Answer, ended, dots, refused, answer}
+use Rattle.session.specs.Jobs.{Job, shown, band, ended, dots, refused, answer}
 use Rattle.session.specs.declared.question.Reason.TheVariants.{NoSuchPage, NoSuchRows}
 use Rattle.page_text.specs.declared.page.Missing.{Missing}
 use Rattle.session.specs.declared.question.Reason.{Reason}

@@ -1,5 +1,5 @@
 -- The lines around pages, as bytes. Cited by the contracts of `lines`. Assumes nothing: these are definitions.
-use Rattle.std.specs.Prelude.{ℕ, List, [], ◌∷◌, ◌++◌, codes, decimal}
+use Rattle.std.specs.Prelude.{ℕ, List, ◌++◌, codes, decimal}
 
 -- the head of a PGM file: its kind, width and height, and the number that is white
 abbrev pub head_bytes : ℕ → ℕ → List ℕ

@@ -14,6 +14,8 @@
 //
 // page: rows of a page, band by band. row: a row as characters. lines: the head of a picture file, a refusal, the last
 // line. laws: bands of any heights make a page.
+#![tactic(auto)]
+
 pub mod laws;
 pub mod lines;
 pub mod page;

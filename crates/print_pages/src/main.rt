@@ -1,6 +1,8 @@
 // Prints a job: its pages as text or as pictures, and how it ends; or by which number and at which place it is refused.
 //
 // words of the command line -> options; the job's bytes -> memory lent for it -> a session -> pages, in chunks of rows
+#![tactic(auto)]
+
 mod memory;
 mod options;
 mod pages;

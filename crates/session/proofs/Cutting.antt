@@ -1,5 +1,5 @@
 -- The words are the regions one after another, and a cut gives the regions back.
-use Rattle.std.proofs.Common.{◌≡◌, ℕ, ◌+◌, List, ◌++◌, length, take, drop, sym, refl, ap, ◌∙◌, arith}
+use Rattle.std.proofs.Common.{◌≡◌, ℕ, ◌+◌, List, ◌++◌, take, drop, sym, refl, ap, ◌∙◌}
 use Rattle.std.proofs.lemmas.List.{take_at, drop_at, drop-drop}
 use Rattle.session.specs.Jobs.{Asked, Answer}
 use Rattle.session.specs.Regions.{Regions, regs, joined, cut, path_room, clip_room, Shaped, next_in, says_in, the_printer}

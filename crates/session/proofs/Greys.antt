@@ -1,10 +1,10 @@
 -- Every dot of a page is a byte: no step paints with a grey of 256 or more.
-use Rattle.std.proofs.Common.{◌≡◌, ℕ, zero, suc, ◌<◌, Bool, true, cond, eqb, ltb, leb, List, [], ◌∷◌, ◌++◌, length, get_or, sym, refl, ap, ◌∙◌, subst, arith}
+use Rattle.std.proofs.Common.{◌≡◌, ℕ, zero, suc, ◌<◌, Bool, true, cond, eqb, ltb, leb, List, [], ◌∷◌, ◌++◌, length, get_or, sym, refl, subst, arith}
 use Rattle.std.proofs.lemmas.Bool.{ltb-true, lt-ltb, cond_both, and_from}
 use Rattle.tokens.specs.Token.{Token, number, does, name, quoted, body, Tokens, none, more, Operator, adds, takes, multiplies, divides, is_less, copies, drops, swaps, defines, repeats, when, moves, lines, fills, clips_by, greys, shifts, scales, keeps, back, shows}
 use Rattle.path.specs.Path.{Ring, Paint}
 use Rattle.raster.specs.Coverage.{covers, dot_on, row, rows}
-use Rattle.machine.specs.Machine.{Value, amount, code, label, Manner, Frame, State, Went, on, ends, push, push_number, with_stack, with_one, with_two, with_code, enter, go_to, line_to, bind, top_two, top_one, back_to, operate, found, call, run_token, with_frames, advance, step_in, step, go_on, at_end, run, begin}
+use Rattle.machine.specs.Machine.{Value, amount, code, label, Manner, Frame, State, Went, on, ends, push, push_number, with_one, with_two, with_code, enter, go_to, line_to, bind, top_two, top_one, back_to, operate, found, call, run_token, advance, step_in, step, go_on, at_end, run, begin}
 use Rattle.machine.specs.Laws.{state_of}
 use Rattle.session.specs.Promise.{all_below}
 use Rattle.session.proofs.Below.{below_append}

@@ -1,8 +1,8 @@
 -- What opening comes to, way by way.
-use Rattle.std.proofs.Common.{◌≡◌, ℕ, ◌+◌, ◌*◌, ◌<◌, ◌≤◌, Bool, true, false, cond, ◌&&◌, leb, List, length, take, drop, Some, None, Ok, Err, Option, Result, sym, refl, ap, ◌∙◌, arith}
+use Rattle.std.proofs.Common.{◌≡◌, ℕ, ◌+◌, ◌*◌, ◌<◌, ◌≤◌, Bool, true, false, cond, ◌&&◌, leb, List, length, take, drop, Some, None, Ok, Err, sym, refl, ap, ◌∙◌, arith}
 use Rattle.std.proofs.lemmas.List.{take_at}
 use Rattle.std.proofs.lemmas.Bool.{le-leb, lt-leb, leb-true, and_parts}
-use Rattle.tokens.specs.Token.{Tokens, size}
+use Rattle.tokens.specs.Token.{Tokens}
 use Rattle.tokens.specs.Stored.{all_stored}
 use Rattle.lexer.specs.Reading.{Read, tokens}
 use Rattle.lexer.specs.Reading as reading
@@ -10,7 +10,7 @@ use Rattle.whole_text.specs.declared.refusal.Refusal.{Refusal}
 use Rattle.whole_text.specs.Refusing.{refusal_number, refusal_place, Checked}
 use Rattle.whole_text.specs.Storing.{StoredAs}
 use Rattle.session.specs.Jobs.{good_size}
-use Rattle.session.specs.Promise.{Order, Opened, turned_away, ready}
+use Rattle.session.specs.Promise.{Order, turned_away, ready}
 use Rattle.session.specs.Regions.{path_room, clip_room, words_asked, opened_by, first_regions, joined}
 use Rattle.session.specs.Views.{Admitted}
 use Rattle.session.proofs.Below.{stored_length}

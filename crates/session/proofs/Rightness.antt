@@ -1,5 +1,5 @@
 -- The printer is right: what holds of the memory from opening on, that it gives the written machine's answers, and that asking keeps it.
-use Rattle.std.proofs.Common.{◌≡◌, ℕ, ◌+◌, ◌*◌, ◌<◌, ◌≤◌, min, Bool, true, false, cond, ◌&&◌, ltb, leb, List, [], ◌∷◌, ◌++◌, length, get_or, drop, replicate, sym, refl, ap, ◌∙◌, subst, inl, inr, mul-le-mul_right, arith, length-append, length-drop}
+use Rattle.std.proofs.Common.{◌≡◌, ℕ, ◌+◌, ◌*◌, ◌<◌, ◌≤◌, min, true, false, cond, ◌&&◌, ltb, leb, List, [], ◌∷◌, ◌++◌, length, get_or, drop, replicate, sym, refl, ap, ◌∙◌, subst, inl, inr, mul-le-mul_right, arith, length-append, length-drop}
 use lib.ListN.{length-replicate}
 use Rattle.std.proofs.lemmas.Bool.{lt-ltb, le-leb, ltb-true, leb-true, cases_Bool, leb-false, lt-leb, cond_both, and_parts, and_from, and_left, and_right}
 use Rattle.tokens.specs.Token.{Tokens, size, AllInRange}
@@ -14,9 +14,9 @@ use Rattle.raster.specs.Coverage.{rows}
 use Rattle.raster.proofs.BandLaws.{length-rows}
 use Rattle.machine.specs.Machine.{run, begin}
 use Rattle.machine.specs.Laws.{state_of, end_of}
-use Rattle.session.specs.Jobs.{Job, good_size, shown, ending, Asked, how_it_ends, band, Answer, ended, dots, refused, answer, answers}
-use Rattle.session.specs.Promise.{Memory, Opened, turned_away, ready, Order, Printer, told_by, left_by, job_of, lent_enough, all_below, GoodOpening, carried, Right}
-use Rattle.session.specs.Regions.{Regions, joined, path_room, clip_room, Shaped, steps_in, width_in, height_in, run_of, pages_at, ending_at, answer_in, says_in, put_answer, next_in, first_regions, words_asked, opened_by, the_printer}
+use Rattle.session.specs.Jobs.{good_size, shown, ending, Asked, how_it_ends, band, Answer, dots, refused, answer, answers}
+use Rattle.session.specs.Promise.{Memory, ready, Order, told_by, left_by, job_of, lent_enough, all_below, GoodOpening, carried, Right}
+use Rattle.session.specs.Regions.{Regions, joined, path_room, clip_room, Shaped, width_in, height_in, run_of, pages_at, ending_at, answer_in, says_in, put_answer, next_in, first_regions, words_asked, opened_by, the_printer}
 use Rattle.session.proofs.Below.{below_append, below_drop, below_replicate, stored_length, stored_below}
 use Rattle.session.proofs.Cutting.{cut_joined}
 use Rattle.session.proofs.Greys.{page_rows_below}

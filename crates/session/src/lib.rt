@@ -21,6 +21,8 @@
 // order: what is ordered, and a refusal. question: questions and replies. layout: how much is asked for, and zeros.
 // reply: an answer from the regions. session: `open`, which cuts lent memory once, and `ask`. listing: `list_paints`.
 // laws: the main promise.
+#![tactic(auto)]
+
 pub mod laws;
 mod layout;
 pub mod listing;

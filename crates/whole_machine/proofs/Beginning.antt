@@ -1,6 +1,5 @@
 -- The machine before its first step.
 use Rattle.std.proofs.Common.{◌≡◌, ℕ, ◌<◌, List, [], ◌∷◌, map, reverse, length, take, set, refl, ap, ◌∙◌, arith}
-use Rattle.tokens.specs.Token.{none}
 use Rattle.tokens.specs.Stored.{decode}
 use Rattle.path.specs.Path.{Ring}
 use Rattle.path.specs.Stored.{paths_in, pieces, pieces_by}

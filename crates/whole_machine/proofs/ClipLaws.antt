@@ -1,12 +1,12 @@
 -- Clips in words, over plain lists: what one more clip leaves, and that a write behind some words leaves them.
-use Rattle.std.proofs.Common.{◌≡◌, ℕ, zero, suc, ◌+◌, ◌*◌, ◌<◌, ◌≤◌, List, [], ◌∷◌, ◌++◌, map, reverse, length, get_or, take, drop, set, sym, refl, ap, ◌∙◌, subst, arith, length-append}
+use Rattle.std.proofs.Common.{◌≡◌, ℕ, zero, suc, ◌+◌, ◌*◌, ◌<◌, ◌≤◌, List, [], ◌∷◌, ◌++◌, map, reverse, length, get_or, take, drop, set, sym, refl, ap, ◌∙◌, arith}
 use lib.Seq.{take-set-le}
 use Rattle.std.proofs.lemmas.List.{append-nil, append_assoc, reverse-append, map-append, take_at, drop_at, take_more, take_more_set, take_all}
 use Rattle.path.specs.Path.{Ring, points, finished}
 use Rattle.path.specs.Stored.{pieces, rings_in, paths_in}
 use Rattle.path.proofs.StoredLaws.{pieces_none, pieces_more, total_push, finished_none, finished_some}
 use Rattle.machine.specs.Machine.{points_in_all}
-use Rattle.whole_machine.specs.Clips.{clips_in, clip_words, weight_in, Whole, Weighs, Light}
+use Rattle.whole_machine.specs.Clips.{clips_in, clip_words, weight_in, Whole, Weighs}
 
 -- clips that were written are read back, whatever follows them
 pieces_written : (cs : List (List ℕ)) (vs : List ℕ) → pieces 1 (clip_words cs ++ vs) ≡ cs ++ pieces 1 vs

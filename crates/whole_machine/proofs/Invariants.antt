@@ -64,7 +64,7 @@ pub fields : (vs : List code_value.Value) (height : ℕ) (fs : List CodeFrame.Fr
       weighed : (i : ℕ) → i < saves → Weighs ws (get_or gs i plain).clips (get_or gs i plain).weight;
       light : (i : ℕ) → i < saves → Light (get_or gs i plain).clips (get_or gs i plain).weight;
       nested : (i j : ℕ) → i ≤ j → j < saves → (get_or gs i plain).clips ≤ (get_or gs j plain).clips;
-      below : (i : ℕ) → i < saves → (get_or gs i plain).clips ≤ clips
+      below : (i : ℕ) → i < saves → (get_or gs i plain).clips ≤ clips;
     }
 fields vs height fs d means bs ns n clips weight gs saves ws all =
     let names = all.1.1.1.1 in

@@ -1,5 +1,5 @@
 -- Kept states, over plain lists: what one more leaves, and one less, and what a write behind the clips in force leaves.
-use Rattle.std.proofs.Common.{◌≡◌, ℕ, ◌+◌, ◌-◌, ◌<◌, ◌≤◌, List, map, reverse, length, get_or, take, set, sym, refl, ap, ◌∙◌, subst, inl, inr, arith, length-set}
+use Rattle.std.proofs.Common.{◌≡◌, ℕ, ◌+◌, ◌-◌, ◌<◌, ◌≤◌, List, map, reverse, length, get_or, take, set, sym, ap, ◌∙◌, subst, inl, inr, arith, length-set}
 use lib.Seq.{take-set-le}
 use Rattle.std.proofs.lemmas.List.{get_or-set_same, get_or-set_other}
 use Rattle.std.proofs.lemmas.Bool.{cases_eq}

@@ -1,7 +1,7 @@
 -- Every step leaves the pages that were shown as they are and at most adds one after them.
 use Rattle.std.proofs.Common.{◌≡◌, ℕ, zero, suc, ◌+◌, List, [], ◌∷◌, ◌++◌, sym, refl, ap, ◌∙◌, subst, suc-add, zero-add, arith}
 use Rattle.std.proofs.lemmas.List.{append-nil, append_assoc}
-use Rattle.tokens.specs.Token.{Token, number, does, name, quoted, body, Tokens, none, more, Operator, adds, takes, multiplies, divides, is_less, copies, drops, swaps, defines, repeats, when, moves, lines, fills, clips_by, greys, shifts, scales, keeps, back, shows, number_of}
+use Rattle.tokens.specs.Token.{Token, number, does, name, quoted, body, Tokens, none, more, Operator, adds, takes, multiplies, divides, is_less, copies, drops, swaps, defines, repeats, when, moves, lines, fills, clips_by, greys, shifts, scales, keeps, back, shows}
 use Rattle.path.specs.Path.{Ring, Paint}
 use Rattle.machine.specs.Machine.{Value, amount, code, label, Manner, Frame, State, Went, on, ends, push, push_number, with_stack, with_one, with_two, with_code, enter, go_to, line_to, bind, top_two, top_one, back_to, operate, found, call, run_token, with_frames, advance, step_in, step, go_on, at_end, run}
 use Rattle.machine.specs.Laws.{state_of, begins_with, ShownStays}

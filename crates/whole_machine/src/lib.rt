@@ -17,7 +17,9 @@
 //
 // event: what a step tells. graphics: the graphics state. state: the state and its changes.
 // outside: the numbers of faults.
+#![tactic(auto)]
+
 pub mod event;
 pub mod graphics;
-pub mod state;
 pub mod outside;
+pub mod state;

@@ -1,7 +1,7 @@
 -- A run, step by step, and what a sink has seen of it.
 use Rattle.std.proofs.Common.{◌≡◌, ℕ, suc, ◌+◌, ◌-◌, ◌<◌, ◌≤◌, Bool, true, false, List, [], ◌∷◌, ◌++◌, length, sym, refl, ap, ◌∙◌, add-zero, zero-add, arith, length-append}
 use Rattle.path.specs.Path.{Paint}
-use Rattle.machine.specs.Machine.{State, Frame, Went, on, ends, go_on, at_end, step, run}
+use Rattle.machine.specs.Machine.{State, Frame, on, ends, go_on, at_end, step, run}
 use Rattle.machine.specs.Laws.{state_of, end_of}
 use Rattle.whole_machine.specs.Abstraction.{Past, no_past, with_painted, with_page, paint_in}
 use Rattle.whole_run.specs.declared.drive.Ending.{Ending}

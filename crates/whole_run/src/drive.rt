@@ -6,11 +6,11 @@ ghost use Rattle.path.specs.Stored.{rings_in};
 ghost use Rattle.whole_machine.specs.Abstraction.{no_past, state, paint_in};
 ghost use Rattle.whole_run.specs.Sinks.{Driven};
 
-use whole_machine::event::{Event, Fault};
-use whole_machine::state::Machine;
 use operators::stepping::step;
 use path::builder::Path;
 use path::extent::Extent;
+use whole_machine::event::{Event, Fault};
+use whole_machine::state::Machine;
 
 // how a run ends: by itself, by a fault; or its sink has seen enough
 #[derive(Clone, Copy)]

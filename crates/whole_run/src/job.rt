@@ -4,10 +4,10 @@ ghost use Rattle.machine.specs.Machine.{begin};
 ghost use Rattle.whole_run.specs.Sinks.{Driven};
 
 use crate::drive::{Ending, Sink, drive};
+use path::builder::Path;
 use whole_machine::graphics::GraphicsState;
 use whole_machine::state::beginning::begin_job;
 use whole_machine::state::{Frame, Value};
-use path::builder::Path;
 
 // all words 0
 fn clear_words(words: &mut [u64])

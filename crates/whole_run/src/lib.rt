@@ -14,6 +14,8 @@
 //
 // drive: how a run goes, for any sink. job: a whole run over its own arrays. count: the sink that
 // counts pages. Painting a band, keeping and listing are other sinks of crates above.
+#![tactic(auto)]
+
 pub mod count;
 pub mod drive;
 pub mod job;

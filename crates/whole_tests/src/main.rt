@@ -1,4 +1,6 @@
 // Jobs at the edges of what a machine does, run by it; what it tells of each was written down by hand first (stdout).
+#![tactic(auto)]
+
 mod calculating;
 mod calling;
 mod graphics;
@@ -9,11 +11,11 @@ ghost use Rattle.std.specs.Prelude.{ℕ, ◌+◌, ◌%◌, true, []};
 use calculating::report_calculating;
 use calling::report_calling;
 use graphics::report_graphics;
-use whole_machine::outside::number_of_fault;
 use path::extent::Extent;
+use std::alloc::{AllocError, Global};
+use whole_machine::outside::number_of_fault;
 use whole_run::drive::{Ending, Sink};
 use whole_run::job::run_job;
-use std::alloc::{AllocError, Global};
 
 const N: u64 = 0;
 

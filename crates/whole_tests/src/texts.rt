@@ -1,8 +1,8 @@
 // Jobs as texts: each is read, stored and run, and a line tells what came of it.
 ghost use Rattle.std.specs.Prelude.{true, []};
 
-use whole_machine::outside::number_of_fault;
 use path::extent::Extent;
+use whole_machine::outside::number_of_fault;
 use whole_run::drive::{Ending, Sink};
 use whole_run::job::run_job;
 use whole_text::store_tokens;

@@ -1,4 +1,4 @@
-use Rattle.std.proofs.Common.{◌≡◌, cond, eqb, drop, Err, sym, ap, ◌∙◌, arith}
+use Rattle.std.proofs.Common.{cond, eqb, drop, Err, sym, ap, ◌∙◌, arith}
 use Rattle.std.proofs.lemmas.Result.{err_from_is_err_and}
 use Rattle.std.proofs.lemmas.Bool.{cond-true, cond-false, eq-eqb, ne_eqb}
 use Rattle.tokens.specs.Stored.{decode}

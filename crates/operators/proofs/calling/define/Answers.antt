@@ -1,5 +1,5 @@
-use Rattle.std.proofs.Common.{◌≡◌, ℕ, List, [], ◌∷◌, drop, sym, refl, ap, ◌∙◌}
-use Rattle.machine.specs.Machine.{State, Value, ends, on, with_stack, with_names, label, rebound, bind, operate}
+use Rattle.std.proofs.Common.{◌≡◌, ℕ, List, ◌∷◌, drop, sym, refl, ap, ◌∙◌}
+use Rattle.machine.specs.Machine.{State, Value, ends, on, with_stack, bind, operate}
 use Rattle.whole_machine.specs.Abstraction.{state, stack_of, value_of}
 use Rattle.whole_machine.specs.declared.state.Value as code_value
 use Rattle.operators.proofs.calling.define.Goals as goal

@@ -1,9 +1,8 @@
-use Rattle.std.proofs.Common.{◌≡◌, cond, eqb, drop, Err, sym, ap, ◌∙◌, arith}
+use Rattle.std.proofs.Common.{Err, sym, ap, ◌∙◌}
 use Rattle.std.proofs.lemmas.Result.{err_from_is_err_and}
-use Rattle.std.proofs.lemmas.Bool.{cond-true, cond-false, eq-eqb, ne_eqb}
 use Rattle.tokens.specs.Stored.{decode}
 use Rattle.machine.specs.Machine.{with_stack, with_one, enter, operate}
-use Rattle.whole_machine.specs.Abstraction.{state, stack_of, after}
+use Rattle.whole_machine.specs.Abstraction.{state, after}
 use Rattle.operators.proofs.calling.repeat.Goals as goal
 
 pub returns-in_err-body : goal.returns-in_err-body

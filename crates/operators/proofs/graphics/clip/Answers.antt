@@ -1,7 +1,6 @@
 use Rattle.std.proofs.Common.{[], sym, ap, ◌∙◌}
 use Rattle.std.proofs.lemmas.Bool.{cond-true, cond-false}
 use Rattle.machine.specs.Machine.{on, ends, with_path, operate}
-use Rattle.whole_machine.specs.Abstraction.{state}
 use Rattle.operators.proofs.PathLaws.{beside}
 use Rattle.operators.proofs.graphics.clip.Goals as goal
 

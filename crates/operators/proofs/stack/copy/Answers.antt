@@ -1,6 +1,6 @@
-use Rattle.std.proofs.Common.{◌≡◌, List, ◌∷◌, drop, sym, ap, ◌∙◌}
+use Rattle.std.proofs.Common.{◌∷◌, sym, ap, ◌∙◌}
 use Rattle.machine.specs.Machine.{push, top_one, operate}
-use Rattle.whole_machine.specs.Abstraction.{state, stack_of, value_of}
+use Rattle.whole_machine.specs.Abstraction.{state, value_of}
 use Rattle.operators.proofs.stack.copy.Goals as goal
 
 pub returns-in_default : goal.returns-in_default

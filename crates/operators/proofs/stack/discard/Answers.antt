@@ -1,4 +1,4 @@
-use Rattle.std.proofs.Common.{◌≡◌, sym, ap, ◌∙◌}
+use Rattle.std.proofs.Common.{sym, ap, ◌∙◌}
 use Rattle.machine.specs.Machine.{on, with_stack, top_one, operate}
 use Rattle.whole_machine.specs.Abstraction.{state}
 use Rattle.operators.proofs.stack.discard.Goals as goal

@@ -1,6 +1,6 @@
-use Rattle.std.proofs.Common.{◌≡◌, List, ◌∷◌, drop, set, sym, ap, ◌∙◌}
-use Rattle.machine.specs.Machine.{State, Value, Went, on, ends, with_stack, top_two, operate}
-use Rattle.whole_machine.specs.Abstraction.{state, stack_of, value_of}
+use Rattle.std.proofs.Common.{List, ◌∷◌, set, sym, ap, ◌∙◌}
+use Rattle.machine.specs.Machine.{State, Value, Went, on, with_stack, top_two, operate}
+use Rattle.whole_machine.specs.Abstraction.{state, value_of}
 use Rattle.operators.proofs.stack.swap.Goals as goal
 
 abbrev swapped : State → List Value → Went

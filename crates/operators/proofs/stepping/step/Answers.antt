@@ -1,7 +1,7 @@
 use Rattle.std.proofs.Common.{[], sym, ap, ◌∙◌, arith}
 use Rattle.tokens.specs.Token.{number, does, name, quoted, body, more}
 use Rattle.tokens.specs.Stored.{decode, operator_of, token_of}
-use Rattle.machine.specs.Machine.{on, ends, amount, code, label, push, found, call, operate, run_token}
+use Rattle.machine.specs.Machine.{on, amount, code, label, push, found, call, operate, run_token}
 use Rattle.whole_machine.specs.Abstraction.{state, frame_of}
 use Rattle.operators.proofs.StepLaws.{finished_there, once_more, leaves, takes_one}
 use Rattle.operators.proofs.stepping.step.Goals as goal

@@ -1,4 +1,4 @@
-use Rattle.std.proofs.Common.{◌≡◌, ◌+◌, ◌*◌, [], ◌++◌, length, get_or, take, drop, sym, ap, ◌∙◌, arith}
+use Rattle.std.proofs.Common.{◌+◌, [], ◌++◌, length, get_or, take, drop, sym, ap, ◌∙◌, arith}
 use Rattle.raster.specs.Coverage.{rows}
 use Rattle.raster.proofs.BandLaws.{length-rows}
 use Rattle.session.specs.Jobs.{shown}

@@ -1,4 +1,4 @@
-use Rattle.std.proofs.Common.{◌≡◌, ℕ, ◌-◌, ◌*◌, ◌≤◌, [], ◌++◌, length, get_or, drop}
+use Rattle.std.proofs.Common.{◌≡◌, ◌-◌, ◌*◌, ◌≤◌, [], ◌++◌, length, get_or, drop}
 use Rattle.raster.specs.Coverage.{rows}
 use Rattle.session.specs.Jobs.{Job, shown}
 use Rattle.session.specs.Promise.{Serves}

@@ -1,4 +1,4 @@
-use Rattle.std.proofs.Common.{◌≡◌, ltb, length, replicate, sym, ap, ◌∙◌}
+use Rattle.std.proofs.Common.{ltb, length, replicate, sym, ap, ◌∙◌}
 use Rattle.machine.specs.Laws.{state_of}
 use Rattle.session.proofs.Answering.{run_at, no_page, no_rows, zeros_put, rows_answer}
 use Rattle.session.proofs.reply.band_reply.Goals as goal

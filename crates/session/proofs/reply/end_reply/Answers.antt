@@ -1,4 +1,4 @@
-use Rattle.std.proofs.Common.{◌≡◌, length, ap, ◌∙◌}
+use Rattle.std.proofs.Common.{length, ap, ◌∙◌}
 use Rattle.machine.specs.Laws.{state_of, end_of}
 use Rattle.session.specs.Regions.{pages_at}
 use Rattle.session.specs.declared.question.Reply.TheVariants.{Ended}

@@ -1,4 +1,4 @@
-use Rattle.std.proofs.Common.{◌≡◌, ℕ, take, replicate, sym, ap, ◌∙◌, rules}
+use Rattle.std.proofs.Common.{ℕ, take, replicate, sym, ap, ◌∙◌, rules}
 use Rattle.std.proofs.lemmas.List.{take_at}
 use Rattle.session.proofs.Cutting.{same_regs}
 use Rattle.session.proofs.session.lay.Goals as goal

@@ -1,4 +1,4 @@
-use Rattle.std.proofs.Common.{◌≡◌, ap}
+use Rattle.std.proofs.Common.{ap}
 use Rattle.tokens.specs.Stage.{whole}
 use Rattle.tokens.proofs.Decoding.{stored_reads_back}
 use Rattle.lexer.proofs.Ranges.{read_in_range}

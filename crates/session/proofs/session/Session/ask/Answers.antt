@@ -1,4 +1,4 @@
-use Rattle.std.proofs.Common.{◌≡◌, sym, ◌∙◌, subst, arith}
+use Rattle.std.proofs.Common.{sym, ◌∙◌, subst, arith}
 use Rattle.session.specs.Promise.{Serves}
 use Rattle.session.specs.Regions.{Shaped, the_printer}
 use Rattle.session.specs.Views.{regions_of, asked_of}
