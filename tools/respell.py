@@ -44,7 +44,8 @@ def read(path):
 def spelled(name, is_lemma):
     if name[0].isupper():
         return "".join(part[:1].upper() + part[1:] for part in re.split(r"[-_]", name))
-    first, dash, rest = re.sub("^getD-", "get_or-", name).partition("-")
+    name = re.sub("^(getD-|get_d_)", "get_or-", name)  # the older name of the library's get_or
+    first, dash, rest = name.partition("-")
     if is_lemma and dash and first in LIBRARY:
         return first + "-" + rest.replace("-", "_")
     return name.replace("-", "_")

@@ -41,19 +41,19 @@ length-rows ps w y (suc n) =
     let b = length-rows ps w (suc y) n in
     omega (arith, suc-mul n w)
 
-get_d_rows : (ps : List Paint) (w y n r x : ℕ) → r < n → x < w → get_or (rows ps w y n) (r * w + x) 0 ≡ dot ps x (y + r)
+get_or-rows : (ps : List Paint) (w y n r x : ℕ) → r < n → x < w → get_or (rows ps w y n) (r * w + x) 0 ≡ dot ps x (y + r)
 unfolding rows
-get_d_rows ps w y zero r x less lt = let no : ⊥ = omega arith in absurd no
-get_d_rows ps w y (suc n) zero x less lt =
+get_or-rows ps w y zero r x less lt = let no : ⊥ = omega arith in absurd no
+get_or-rows ps w y (suc n) zero x less lt =
     let l = length-row ps w y in
     let e : zero * w + x ≡ x = omega (arith, zero-mul w) in
     ap (λ k. get_or (row ps w y ++ rows ps w (suc y) n) k 0) e ∙ get_or_append_left (row ps w y) (rows ps w (suc y) n) 0 x (omega arith) ∙ get_or-row ps w y x lt ∙ ap (dot ps x) (sym (add-zero y))
-get_d_rows ps w y (suc n) (suc r) x less lt =
+get_or-rows ps w y (suc n) (suc r) x less lt =
     let m = suc-mul r w in
     let e : suc r * w + x - w ≡ r * w + x = omega arith in
     get_or-append_right (row ps w y) (rows ps w (suc y) n) w (suc r * w + x) 0 (length-row ps w y) (omega arith)
     ∙ ap (λ k. get_or (rows ps w (suc y) n) k 0) e
-    ∙ get_d_rows ps w (suc y) n r x (omega arith) lt
+    ∙ get_or-rows ps w (suc y) n r x (omega arith) lt
     ∙ ap (dot ps x) (suc-add y r ∙ sym (add-suc y r))
 
 -- a row ends where the next begins
@@ -118,9 +118,9 @@ painted_more was bytes w y n t same fits one behind ps e =
           let place : i / w * w + i % w ≡ i = div-add-mod' i w in
           sym (ap (λ k. get_or bytes k 0) place)
           ∙ one (i / w) (i % w) lr lx
-          ∙ ap (λ v. cond (covers t (i % w) (y + i / w)) t.grey v) (ap (λ k. get_or was k 0) place ∙ sym (get_or-take (n * w) was i 0 within) ∙ ap (λ z. get_or z i 0) e ∙ sym (ap (λ k. get_or (rows ps w y n) k 0) place) ∙ get_d_rows ps w y n (i / w) (i % w) lr lx)
+          ∙ ap (λ v. cond (covers t (i % w) (y + i / w)) t.grey v) (ap (λ k. get_or was k 0) place ∙ sym (get_or-take (n * w) was i 0 within) ∙ ap (λ z. get_or z i 0) e ∙ sym (ap (λ k. get_or (rows ps w y n) k 0) place) ∙ get_or-rows ps w y n (i / w) (i % w) lr lx)
           ∙ sym (dot_more ps t (i % w) (y + i / w) 255)
-          ∙ sym (get_d_rows (ps ++ (t ∷ [])) w y n (i / w) (i % w) lr lx)
+          ∙ sym (get_or-rows (ps ++ (t ∷ [])) w y n (i / w) (i % w) lr lx)
           ∙ ap (λ k. get_or new k 0) place
           ∙ sym (get_or_append_left new (drop (n * w) was) 0 i (omega arith))
       | inr past ↦

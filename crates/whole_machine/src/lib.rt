@@ -1,6 +1,7 @@
-// The machine that a job runs on: its state, and what can be done to it.
+// The machine that a job of all operators runs on: its state, and what can be done to it. What a step of it is stands in
+// crate machine, whose code does the first stage's operators.
 //
-// In: tokens as words (crate text), words for the clips, and arrays that the caller holds. Out: a
+// In: tokens as words (crate whole_text), words for the clips, and arrays that the caller holds. Out: a
 // state, and the small changes that operators are made of (crate operators): look at an operand,
 // push over some, enter a frame. The machine holds nothing that it has painted: an event says that
 // the first words of the path (crate path) were painted just now, or that a page was shown, and

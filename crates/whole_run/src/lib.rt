@@ -1,4 +1,4 @@
-// Runs: a machine driven to its end, and what comes of it.
+// Runs: the machine of all operators driven to its end, and what comes of it.
 //
 // In: stored tokens, words for the path and the clips, a count of steps, and a sink. Out: how the
 // job ended; and what the sink makes of everything that was painted and shown, in order. The

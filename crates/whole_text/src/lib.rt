@@ -1,9 +1,10 @@
 // A job's text: bytes become stored tokens, or are refused at the right byte.
+// This is crate text at all 21 operators, beside the first stage's until it takes its place.
 //
 //   bytes ──lexer──> lexemes ──check──> how many tokens, or a refusal     (no lent memory)
 //                        └─────store──> words                             (after the checks)
 //
-// Three passes over one lexer (crate lexer; crate words says what its lexemes mean). `check` goes over the whole text twice: can it be read (refusal 1), then is
+// Three passes over one lexer (crate lexer; crate whole_words says what its lexemes mean). `check` goes over the whole text twice: can it be read (refusal 1), then is
 // it within the limits (refusal 2); its table of at most 256 names stands on the call stack, 4 KB.
 // `store` writes the tokens at the front of the lent words, two words for each:
 //
@@ -12,7 +13,7 @@
 //
 // A body is read by recursion over a depth that falls from 32, and is handed on as the part of the words
 // that holds it: `tokens::next_token` gives the next token of any words whatever, and the words behind it.
-// The meaning of a text is `read` of lexer's Reading.antt, at the operators of `stage` of words' Stage.antt.
+// The meaning of a text is `read` of lexer's Reading.antt, at every operator, `whole` of tokens' Stage.antt.
 #![tactic(auto)]
 
 mod check;
