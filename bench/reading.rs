@@ -12,7 +12,7 @@ fn tokens_of(source: &[u8]) -> u64 {
 }
 
 fn pages_of(tokens: &[u64], words: &mut [u64], steps: u32) -> u64 {
-    let mut clips = [0u64; 3072];
+    let mut clips = [0u64; 1];
     unsafe { run_count_pages(tokens.as_ptr(), tokens.len(), words.as_mut_ptr(), words.len(), clips.as_mut_ptr(), clips.len(), steps) }
 }
 
@@ -68,10 +68,4 @@ fn main() {
     let mut words = vec![0u64; 3_072];
     let seconds = best(200, || assert_eq!(pages_of(&tokens, &mut words, steps as u32), 1));
     println!("run  {steps:>9} steps of numbers, moves, lines   {:>5.0} million steps/s", steps as f64 / seconds / 1e6);
-    // /x 1 defines, and then a million times { x drops }
-    let rounds = 1_000_000;
-    let looping = [3, 0, 0, 1, 1, 8, 0, rounds, 4, 4, 2, 0, 1, 6, 1, 9];
-    let steps = 5 + 1 + 3 * rounds + 1 + 1;
-    let seconds = best(10, || assert_eq!(pages_of(&looping, &mut words, steps as u32), 0));
-    println!("run  {steps:>9} steps of a body with a name      {:>5.0} million steps/s", steps as f64 / seconds / 1e6);
 }
