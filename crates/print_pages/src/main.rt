@@ -16,7 +16,7 @@ use std::io::Read;
 use std::process::ExitCode;
 use std::{fs, io};
 
-const USAGE: &str = "print_job [options] [FILE]
+const USAGE: &str = "print_pages [options] [FILE]
 
 Prints the job in FILE, or from standard input where FILE is absent or -:
 each row of a page as a line, # for black, . for white and + for other greys,
