@@ -2,7 +2,7 @@
 #![tactic(auto)]
 
 use failure::Failure;
-use session::listing::list_paints;
+use session::paints::list_paints;
 use std::alloc::{AllocError, Global};
 use std::io::{Read, Write};
 use std::process::ExitCode;

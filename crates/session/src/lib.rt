@@ -19,14 +19,14 @@
 //     bytes   | the listing, as far as it fits | never touched |
 //
 // order: what is ordered, and a refusal. question: questions and replies. layout: how much is asked for, and zeros.
-// reply: an answer from the regions. session: `open`, which cuts lent memory once, and `ask`. listing: `list_paints`.
+// reply: an answer from the regions. session: `open`, which cuts lent memory once, and `ask`. paints: `list_paints`.
 // laws: the main promise.
 #![tactic(auto)]
 
 pub mod laws;
 mod layout;
-pub mod listing;
 pub mod order;
+pub mod paints;
 pub mod question;
 mod reply;
 pub mod session;

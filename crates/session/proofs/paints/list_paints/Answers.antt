@@ -1,6 +1,6 @@
 use Rattle.std.proofs.Common.{arith}
 use Rattle.session.proofs.Storing.{stored_to_list, is_listed}
-use Rattle.session.proofs.listing.list_paints.Goals as goal
+use Rattle.session.proofs.paints.list_paints.Goals as goal
 
 pub overflow_add-end : goal.overflow_add-end
 overflow_add-end c = let s = stored_to_list _ _ _ _ _ _ c.in_ok-steps.ensures c.in_ok-used.ensures in omega (arith, s.room)

@@ -4,7 +4,7 @@ use Rattle.tokens.specs.Stored.{decode}
 use Rattle.machine.specs.Machine.{run, begin}
 use Rattle.machine.specs.Laws.{state_of}
 use Rattle.listing.specs.Lines.{listing_of}
-use Rattle.session.proofs.listing.list_stored.Goals as goal
+use Rattle.session.proofs.paints.list_stored.Goals as goal
 
 pub returns : goal.returns
 returns c =
