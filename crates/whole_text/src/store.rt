@@ -110,9 +110,9 @@ pub fn store_tokens(source: &[u8], words: &mut [u64]) -> Result<usize, Refusal>
     ensures { StoredAs result (read whole source.now) words.old words.new }
 {
     let count = count_tokens(source)?;
-    if words.len() / 2 < count {
+    let Some(_) = (words.len() / 2).checked_sub(count) else {
         return Err(Refusal::TooLittleMemory { place: 0 });
-    }
+    };
     let mut names = [&source[0..0]; NAMES];
     Ok(store_all(source, &mut names, words))
 }
