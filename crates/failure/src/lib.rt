@@ -28,7 +28,7 @@ impl fmt::Display for Failure {
     fn fmt<W: fmt::Write>(&self, f: &mut fmt::Formatter<W>) -> fmt::Result {
         match self {
             Failure::Said(message) => write!(f, "{message}"),
-            Failure::NoMemory => write!(f, "there is too little memory"),
+            Failure::NoMemory => write!(f, "memory allocation failed"),
             Failure::Io(e) => write!(f, "{e}"),
         }
     }

@@ -75,6 +75,10 @@ fn run(rt: &HostRuntime) -> Result<(), Failure> {
 fn main(rt: HostRuntime) -> io::Result<ExitCode> {
     match run(&rt) {
         Ok(()) => Ok(ExitCode::SUCCESS),
+        Err(Failure::NoMemory) => {
+            eprintln!(rt; "print_pages: there is too little memory: try a narrower page")?;
+            Ok(ExitCode::FAILURE)
+        }
         Err(e) => {
             eprintln!(rt; "print_pages: {e}")?;
             Ok(ExitCode::FAILURE)

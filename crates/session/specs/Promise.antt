@@ -67,7 +67,7 @@ GoodOpening can r o (tokens ts) (ready m) =
 abbrev pub carried : Order → Bool
 carried o = all_below 256 o.bytes && all_below 18446744073709551616 (o.steps ∷ (o.wide ∷ (o.tall ∷ (o.kept ∷ (o.words_lent ∷ (o.bytes_lent ∷ []))))))
 
--- THE MAIN PROMISE, for the operators that a whole can do
+-- THE MAIN PROMISE, for the operators that a stage can do
 unfoldable pub Right : (ℕ → Bool) → Printer → Type 0
 Right can r = (o : Order) → carried o ≡ true → GoodOpening can r o (read can o.bytes) (r.opens o)
 

@@ -1,0 +1,14 @@
+use std::io;
+use whole_text::count_tokens;
+
+// The one place where a text is read for a line of its own.
+pub fn report(rt: &HostRuntime, name: &str, source: &[u8]) -> io::Result<()> {
+    match count_tokens(source) {
+        Ok(n) => println!(rt; "{name}: tokens {n}"),
+        Err(refusal) => {
+            let number = refusal.number();
+            let place = refusal.place();
+            println!(rt; "{name}: refused {number} at {place}")
+        }
+    }
+}
