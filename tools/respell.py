@@ -115,6 +115,8 @@ def main():
     words |= {b.replace("_", "-"): b for b in stay if "_" in b and b.replace("_", "-") not in JOB_WORDS}
     changed = 0
     for path in [*files("crates", ".antt", ".rt", ".edit"), *files("docs", ".md"), "README.md"]:
+        if path.endswith("PORT.md"):  # it lists the older names
+            continue
         old = read(path)
         if path.endswith(".antt"):
             new = around(REMARK, old, table, lambda t: turned(t, words))
