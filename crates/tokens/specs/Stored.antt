@@ -1,8 +1,9 @@
 -- Tokens as they are stored: two words for each, its kind and its number; a body's number is how many words it has, and they follow. Any words can be read. Cited by the reader, the machine and the session. Assumes nothing: these are definitions.
-use Rattle.std.specs.Prelude.{◌≡◌, ℕ, zero, suc, ◌%◌, ◌<◌, cond, List, [], ◌∷◌, ◌++◌, length, take, drop, Some, None, Option, ◌==◌, nat_lt, slice_index}
+use Rattle.std.specs.Prelude.{◌≡◌, ℕ, zero, suc, ◌%◌, ◌<◌, cond, List, [], ◌∷◌, ◌++◌, length, take, drop, Some, None, Option, Ok, Err, Result, ◌==◌, nat_lt, slice_index}
 use Rattle.std.specs.Borrow.{Bor}
 use Rattle.tokens.specs.Token.{Token, number, does, name, quoted, body, Tokens, none, more, Operator, number_of, adds, takes, multiplies, divides, is_less, copies, drops, swaps, defines, repeats, when, moves, lines, fills, clips_by, greys, shifts, scales, keeps, back, shows}
-use Rattle.tokens.specs.declared.Operator as code_operator
+use Rattle.tokens.specs.declared.operator.Operator as code_operator
+use Rattle.tokens.specs.declared.operator.UnknownOperator as Unknown
 use Rattle.tokens.specs.declared.Token as code_token
 
 unfoldable mutual
@@ -102,9 +103,10 @@ operator_of code_operator.TheVariants.Keeps = keeps
 operator_of code_operator.TheVariants.Back = back
 operator_of code_operator.TheVariants.Shows = shows
 
-abbrev pub known : Option code_operator.Operator → Option Operator
-known None = None
-known (Some op) = Some (operator_of op)
+-- the operator that a number has, or that none has it
+abbrev pub KnownBy : ℕ → Result code_operator.Operator Unknown.UnknownOperator → Type 0
+KnownBy n (Ok op) = operator_at n ≡ Some (operator_of op)
+KnownBy n (Err e) = (operator_at n ≡ None) × (e.0 ≡ n)
 
 abbrev pub token_of : code_token.Token → Token
 token_of (code_token.TheVariants.Number n) = number n

@@ -17,14 +17,14 @@ plain_is f ws kind h is e = ap f (after ws h) ∙ e ∙ head_long ws kind h is
 pub returns-then-rest-lt2 : goal.returns-then-rest-lt2
 returns-then-rest-lt2 c = next_over _ (sym (head_short c.args.rest.now c.if-rest-lt2.true))
 
-pub returns-in_default-operator_from : goal.returns-in_default-operator_from
-returns-in_default-operator_from c = let ws = c.args.rest.now in next_over ws (ap (λ o. operator_head o (drop 2 ws)) c.in_default-operator_from.ensures ∙ head_long ws 1 c.if-rest-lt2.false c.in-1.is)
+pub returns-in_default-try_from : goal.returns-in_default-try_from
+returns-in_default-try_from c = let ws = c.args.rest.now in next_over ws (sym (ap (λ o. operator_head o (drop 2 ws)) c.in_default-try_from.ensures.0) ∙ head_long ws 1 c.if-rest-lt2.false c.in-1.is)
 
 pub returns-in-0 : goal.returns-in-0
 returns-in-0 c = let ws = c.args.rest.now in next_is _ _ ws (plain_is (plain (number (get_or ws 1 0 % 2147483648))) ws 0 c.if-rest-lt2.false c.in-0.is refl)
 
-pub returns-in-Some : goal.returns-in-Some
-returns-in-Some c = let ws = c.args.rest.now in next_is _ _ ws (plain_is (plain (does (operator_of c.in-Some.op))) ws 1 c.if-rest-lt2.false c.in-1.is (ap (λ o. operator_head o (drop 2 ws)) c.in-Some.ensures))
+pub returns-in-Ok : goal.returns-in-Ok
+returns-in-Ok c = let ws = c.args.rest.now in next_is _ _ ws (plain_is (plain (does (operator_of c.in-Ok.op))) ws 1 c.if-rest-lt2.false c.in-1.is (sym (ap (λ o. operator_head o (drop 2 ws)) c.in-Ok.ensures)))
 
 pub returns-in-2 : goal.returns-in-2
 returns-in-2 c = let ws = c.args.rest.now in next_is _ _ ws (plain_is (plain (name (get_or ws 1 0 % 256))) ws 2 c.if-rest-lt2.false c.in-2.is refl)

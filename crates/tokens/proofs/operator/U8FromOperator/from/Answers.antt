@@ -1,10 +1,10 @@
 use Rattle.tokens.specs.Token.{number_of}
 use Rattle.tokens.specs.Stored.{operator_of}
 use Rattle.std.proofs.Common.{◌≡◌, refl}
-use Rattle.tokens.specs.declared.Operator as code_operator
-use Rattle.tokens.specs.contracts.Operator.{the_type}
+use Rattle.tokens.specs.declared.operator.Operator as code_operator
+use Rattle.tokens.specs.contracts.operator.Operator.{the_type}
 use denote.Enum.Declared.{tag_of}
-use Rattle.tokens.proofs.number.Goals as goal
+use Rattle.tokens.proofs.operator.U8FromOperator.from.Goals as goal
 
 tag_is : (op : code_operator.Operator) → tag_of the_type op ≡ number_of (operator_of op)
 unfolding number_of
