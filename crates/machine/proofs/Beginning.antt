@@ -1,44 +1,21 @@
 -- The machine before its first step.
-use Rattle.std.proofs.Common.{◌≡◌, ℕ, ◌<◌, List, [], ◌∷◌, map, reverse, length, take, set, refl, ap, ◌∙◌, arith}
+use Rattle.std.proofs.Common.{◌≡◌, List, [], refl, ap, ◌∙◌}
 use Rattle.tokens.specs.Token.{none}
 use Rattle.tokens.specs.Stored.{decode, decode_in}
 use Rattle.path.specs.Path.{Ring}
-use Rattle.path.specs.Stored.{paths_in, pieces, pieces_by}
-use Rattle.machine.specs.Machine.{Frame, State, begin}
-use Rattle.machine.specs.Abstraction.{frame_of, clips_in}
-use Rattle.machine.specs.declared.machine.Frame as CodeFrame
+use Rattle.machine.specs.Machine.{Value, Binding, Manner, Frame, State}
 
-abbrev begun : List Ring → Ring → List (List Ring) → List Frame → State
-begun rs r cs fs =
-    record {
-      stack = [];
-      names = [];
-      rings = rs;
-      ring = r;
-      manner = record { grey = 0; scale = 16; left = 0; top = 0; clips = cs };
-      saved = [];
-      paints = [];
-      pages = [];
-      frames = fs;
-    }
-
-no_clips : clips_in [] ≡ []
-unfolding clips_in paths_in pieces pieces_by
-no_clips = refl
-
-nothing : decode [] ≡ none
+-- nothing is left in no words
+pub nothing : decode [] ≡ none
 unfolding decode decode_in
 nothing = refl
 
-first_frame : (fs : List CodeFrame.Frame) (f : CodeFrame.Frame) → 0 < length fs → map frame_of (reverse (take 1 (set fs 0 f))) ≡ frame_of f ∷ []
-first_frame [] f some = let no_such : ⊥ = omega arith in absurd no_such
-first_frame (x ∷ xs) f some = refl
+abbrev begun : List Value → List Binding → List Ring → Ring → Manner → List Manner → List Frame → State
+begun vs ns rs r m ms fs = record { stack = vs; names = ns; rings = rs; ring = r; manner = m; saved = ms; paints = []; pages = []; frames = fs }
 
-pub begins : (ws : List ℕ) (rs : List Ring) (r : Ring) (fs : List CodeFrame.Frame) (f : CodeFrame.Frame) → rs ≡ [] → r ≡ [] → 0 < length fs →
-    frame_of f ≡ record { rest = decode ws; again = 0; whole = decode [] } → begun rs r (clips_in []) (map frame_of (reverse (take 1 (set fs 0 f)))) ≡ begin (decode ws)
-begins ws rs r fs f a b some is =
-    let one : Frame → List Frame = λ x. x ∷ [] in
-    ap (λ x. begun x r (clips_in []) (map frame_of (reverse (take 1 (set fs 0 f))))) a
-    ∙ ap (λ x. begun [] x (clips_in []) (map frame_of (reverse (take 1 (set fs 0 f))))) b
-    ∙ ap (λ x. begun [] [] x (map frame_of (reverse (take 1 (set fs 0 f))))) no_clips
-    ∙ ap (begun [] [] []) (first_frame fs f some ∙ ap one is ∙ ap (λ x. one (record { rest = decode ws; again = 0; whole = x })) nothing)
+-- states with nothing painted or shown are the same where their parts are
+pub same_begun : {vs vs' : List Value} {ns ns' : List Binding} {rs rs' : List Ring} {r r' : Ring} {m m' : Manner} {ms ms' : List Manner} {fs fs' : List Frame} →
+    vs ≡ vs' → ns ≡ ns' → rs ≡ rs' → r ≡ r' → m ≡ m' → ms ≡ ms' → fs ≡ fs' → begun vs ns rs r m ms fs ≡ begun vs' ns' rs' r' m' ms' fs'
+same_begun {vs} {vs'} {ns} {ns'} {rs} {rs'} {r} {r'} {m} {m'} {ms} {ms'} {fs} {fs'} a b c d e f h =
+    ap (λ x. begun x ns rs r m ms fs) a ∙ ap (λ x. begun vs' x rs r m ms fs) b ∙ ap (λ x. begun vs' ns' x r m ms fs) c ∙ ap (λ x. begun vs' ns' rs' x m ms fs) d
+    ∙ ap (λ x. begun vs' ns' rs' r' x ms fs) e ∙ ap (λ x. begun vs' ns' rs' r' m' x fs) f ∙ ap (begun vs' ns' rs' r' m' ms') h

@@ -1,8 +1,8 @@
 mod Beginning
-mod Drawing
+mod ClipLaws
+mod KeepLaws
+mod Looking
+mod NameLaws
 mod Running
-mod Showing
+pub mod Showing
 pub mod Staged
-mod Standing
-mod Stepping
-mod Tops

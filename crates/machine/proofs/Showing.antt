@@ -1,5 +1,5 @@
 -- Every step leaves the pages that were shown as they are and at most adds one after them.
-use Rattle.std.proofs.Common.{◌≡◌, ℕ, zero, suc, List, [], ◌∷◌, ◌++◌, sym, refl, ap, ◌∙◌, arith}
+use Rattle.std.proofs.Common.{◌≡◌, ℕ, zero, suc, ◌+◌, List, [], ◌∷◌, ◌++◌, sym, refl, ap, ◌∙◌, subst, suc-add, zero-add, arith}
 use Rattle.std.proofs.lemmas.List.{append-nil, append_assoc}
 use Rattle.tokens.specs.Token.{Token, number, does, name, quoted, body, Tokens, none, more, Operator, adds, takes, multiplies, divides, is_less, copies, drops, swaps, defines, repeats, when, moves, lines, fills, clips_by, greys, shifts, scales, keeps, back, shows}
 use Rattle.path.specs.Path.{Ring, Paint}
@@ -143,3 +143,27 @@ ran (suc n) s = goes (step s) (run n) (stepped s s.frames) (λ t. ran n t)
 
 pub shown_stays : ShownStays
 shown_stays s n = (ran n s).begins
+
+-- a step at which a run ends is its end with more steps too
+goes_alike : (w : Went) (f g : State → Went) → ((t : State) → Keeps (state_of (f t)).pages (g t)) → Keeps (state_of (go_on w f)).pages (go_on w g)
+unfolding go_on
+goes_alike (on t) f g h = h t
+goes_alike (ends e t) f g h = same _ refl
+
+pages_at_end : (s : State) (fs : List Frame) → s.pages ≡ (state_of (at_end fs s)).pages
+unfolding at_end state_of
+pages_at_end s [] = refl
+pages_at_end s (f ∷ fs) = refl
+
+ran_longer : (n m : ℕ) (s : State) → Keeps (state_of (run n s)).pages (run (n + m) s)
+unfolding run
+ran_longer zero m s =
+    subst (λ g. Keeps g (run (zero + m) s)) (pages_at_end s s.frames)
+    (subst (λ k. Keeps s.pages (run k s)) (sym (zero-add m)) (ran m s))
+ran_longer (suc n) m s =
+    subst (λ k. Keeps (state_of (run (suc n) s)).pages (run k s)) (sym (suc-add n m))
+    (goes_alike (step s) (run n) (run (n + m)) (λ t. ran_longer n m t))
+
+-- the pages of a run of so many steps are the first pages of a longer one
+pub longer_run : (n m : ℕ) (s : State) → begins_with (state_of (run (n + m) s)).pages (state_of (run n s)).pages
+longer_run n m s = (ran_longer n m s).begins

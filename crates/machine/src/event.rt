@@ -1,7 +1,12 @@
+ghost use Rattle.std.specs.Prelude.{◌≡◌};
+ghost use Rattle.machine.specs.Numbers.{fault_number};
+ghost use Rattle.machine.specs.declared.event.Fault.TheVariants.{LimitExceeded};
+
+use stack::Full;
 use tokens::Operator;
 
-// why a job ends before its end
-#[derive(Clone, Copy)]
+// why a job ends before its end; the numbers are told to the outside
+#[derive(Clone, Copy, Debug, PartialEq, Eq)]
 pub enum Fault {
     StackUnderflow = 1,
     WrongKind = 2,
@@ -13,9 +18,26 @@ pub enum Fault {
     StepsUsedUp = 8,
 }
 
+impl From<Fault> for u8 {
+    ghost from_gives = { λ fault n. n ≡ fault_number fault };
+
+    fn from(fault: Fault) -> u8 {
+        fault as u8
+    }
+}
+
+// what is full takes no more: operands, frames, names, kept states, clips
+impl From<Full> for Fault {
+    ghost from_gives = { λ e fault. fault ≡ LimitExceeded };
+
+    fn from(_e: Full) -> Fault {
+        Fault::LimitExceeded
+    }
+}
+
 // Painted(n): the first n words of the path are what was painted, and the path is empty now.
-// Unsupported: the operator's token was taken, and nothing else was done.
-#[derive(Clone, Copy)]
+// Unsupported: the token of an operator that the stage can't do was taken, and nothing else was done.
+#[derive(Clone, Copy, Debug, PartialEq, Eq)]
 pub enum Event {
     On,
     Painted(usize),

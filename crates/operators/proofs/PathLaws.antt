@@ -5,11 +5,13 @@ use Rattle.path.specs.Path.{Point, Ring, points, finished}
 use Rattle.path.specs.Building.{rings_of, ring_of}
 use Rattle.path.specs.declared.builder.Path.{Path}
 use Rattle.machine.specs.Machine.{State, Value, Went, on, ends, with_path, with_stack, placed, near_enough, go_to, line_to}
-use Rattle.whole_machine.specs.Abstraction.{Past, state}
-use Rattle.whole_machine.specs.declared.state.Machine.{Machine}
+use Rattle.machine.specs.Abstraction.{Past, state}
+use Rattle.tokens.specs.declared.stage.Stage as stage
+use Rattle.machine.specs.declared.stage.Clipping.{Ghosts}
+use Rattle.machine.specs.declared.state.Machine.{Machine}
 
 -- a machine beside another path
-pub beside : (m : Machine) (p q : Path) (t : Past) (rs : List Ring) (r : Ring) → rings_of q ≡ rs → ring_of q ≡ r → state m q t ≡ with_path (state m p t) rs r
+pub beside : {X : Type 0} {G : Ghosts X} {S : stage.Ghosts X} (m : Machine X G S) (p q : Path) (t : Past) (rs : List Ring) (r : Ring) → rings_of q ≡ rs → ring_of q ≡ r → state m q t ≡ with_path (state m p t) rs r
 beside m p q t rs r e f = ap (λ x. with_path (state m p t) x (ring_of q)) e ∙ ap (with_path (state m p t) rs) f
 
 pub go_to_far : (s : State) (a b : ℕ) (vs : List Value) → near_enough (placed s.manner a b) ≡ false → ends 3 s ≡ go_to s a b vs

@@ -1,17 +1,18 @@
 ghost use Rattle.std.specs.Prelude.{◌≡◌, drop};
 ghost use Rattle.tokens.specs.Token.{adds, takes, multiplies, divides, is_less};
 ghost use Rattle.machine.specs.Machine.{operate, push_number};
-ghost use Rattle.whole_machine.specs.Abstraction.{Past, state, stack_of, after};
+ghost use Rattle.machine.specs.Abstraction.{Past, state, stack_of, after};
 
+use machine::event::{Event, Fault};
+use machine::stage::Clipping;
+use machine::state::{Machine, Value};
 use path::builder::Path;
-use whole_machine::event::{Event, Fault};
-use whole_machine::state::{Machine, Value};
 
 // results are below this
 const BOUND: u64 = 2147483648;
 
 // a result in place of two operands
-fn put_result<'s, 'a>(m: &mut Machine<'s, 'a>, n: u64) -> Result<Event, Fault>
+fn put_result<'s, 'a, S: Clipping>(m: &mut Machine<'s, 'a, S>, n: u64) -> Result<Event, Fault>
     ensures { (p : Path) (t : Past) → after result m.new p t ≡ push_number (state m.old p t) (drop 2 (stack_of m.old)) n }
 {
     if n >= BOUND {
@@ -20,14 +21,14 @@ fn put_result<'s, 'a>(m: &mut Machine<'s, 'a>, n: u64) -> Result<Event, Fault>
     m.push_over(2, Value::Number(n as u32))
 }
 
-pub(crate) fn add<'s, 'a>(m: &mut Machine<'s, 'a>) -> Result<Event, Fault>
+pub(crate) fn add<'s, 'a, S: Clipping>(m: &mut Machine<'s, 'a, S>) -> Result<Event, Fault>
     ensures { (p : Path) (t : Past) → after result m.new p t ≡ operate (state m.old p t) adds }
 {
     let (a, b) = m.two_numbers()?;
     put_result(m, a as u64 + b as u64)
 }
 
-pub(crate) fn subtract<'s, 'a>(m: &mut Machine<'s, 'a>) -> Result<Event, Fault>
+pub(crate) fn subtract<'s, 'a, S: Clipping>(m: &mut Machine<'s, 'a, S>) -> Result<Event, Fault>
     ensures { (p : Path) (t : Past) → after result m.new p t ≡ operate (state m.old p t) takes }
 {
     let (a, b) = m.two_numbers()?;
@@ -37,14 +38,14 @@ pub(crate) fn subtract<'s, 'a>(m: &mut Machine<'s, 'a>) -> Result<Event, Fault>
     put_result(m, (a - b) as u64)
 }
 
-pub(crate) fn multiply<'s, 'a>(m: &mut Machine<'s, 'a>) -> Result<Event, Fault>
+pub(crate) fn multiply<'s, 'a, S: Clipping>(m: &mut Machine<'s, 'a, S>) -> Result<Event, Fault>
     ensures { (p : Path) (t : Past) → after result m.new p t ≡ operate (state m.old p t) multiplies }
 {
     let (a, b) = m.two_numbers()?;
     put_result(m, a as u64 * b as u64)
 }
 
-pub(crate) fn divide<'s, 'a>(m: &mut Machine<'s, 'a>) -> Result<Event, Fault>
+pub(crate) fn divide<'s, 'a, S: Clipping>(m: &mut Machine<'s, 'a, S>) -> Result<Event, Fault>
     ensures { (p : Path) (t : Past) → after result m.new p t ≡ operate (state m.old p t) divides }
 {
     let (a, b) = m.two_numbers()?;
@@ -55,7 +56,7 @@ pub(crate) fn divide<'s, 'a>(m: &mut Machine<'s, 'a>) -> Result<Event, Fault>
 }
 
 // 1 where the lower one is less, else 0
-pub(crate) fn compare<'s, 'a>(m: &mut Machine<'s, 'a>) -> Result<Event, Fault>
+pub(crate) fn compare<'s, 'a, S: Clipping>(m: &mut Machine<'s, 'a, S>) -> Result<Event, Fault>
     ensures { (p : Path) (t : Past) → after result m.new p t ≡ operate (state m.old p t) is_less }
 {
     let (a, b) = m.two_numbers()?;

@@ -1,14 +1,15 @@
 ghost use Rattle.std.specs.Prelude.{◌≡◌, []};
 ghost use Rattle.tokens.specs.Token.{defines, repeats, when};
 ghost use Rattle.machine.specs.Machine.{operate, call, found};
-ghost use Rattle.whole_machine.specs.Abstraction.{Past, state, names_of, after};
+ghost use Rattle.machine.specs.Abstraction.{Past, state, names_of, after};
 
+use machine::event::{Event, Fault};
+use machine::stage::Clipping;
+use machine::state::{Machine, Value};
 use path::builder::Path;
-use whole_machine::event::{Event, Fault};
-use whole_machine::state::{Machine, Value};
 
 // a name means a value from now on
-pub(crate) fn define<'s, 'a>(m: &mut Machine<'s, 'a>) -> Result<Event, Fault>
+pub(crate) fn define<'s, 'a, S: Clipping>(m: &mut Machine<'s, 'a, S>) -> Result<Event, Fault>
     ensures { (p : Path) (t : Past) → after result m.new p t ≡ operate (state m.old p t) defines }
 {
     let Some(v) = m.operand_at(0) else {
@@ -26,7 +27,7 @@ pub(crate) fn define<'s, 'a>(m: &mut Machine<'s, 'a>) -> Result<Event, Fault>
 }
 
 // a body so many times
-pub(crate) fn repeat<'s, 'a>(m: &mut Machine<'s, 'a>) -> Result<Event, Fault>
+pub(crate) fn repeat<'s, 'a, S: Clipping>(m: &mut Machine<'s, 'a, S>) -> Result<Event, Fault>
     ensures { (p : Path) (t : Past) → after result m.new p t ≡ operate (state m.old p t) repeats }
 {
     let body = m.body_at(0)?;
@@ -36,7 +37,7 @@ pub(crate) fn repeat<'s, 'a>(m: &mut Machine<'s, 'a>) -> Result<Event, Fault>
 }
 
 // a body once, or not at all where the number is 0
-pub(crate) fn branch<'s, 'a>(m: &mut Machine<'s, 'a>) -> Result<Event, Fault>
+pub(crate) fn branch<'s, 'a, S: Clipping>(m: &mut Machine<'s, 'a, S>) -> Result<Event, Fault>
     ensures { (p : Path) (t : Past) → after result m.new p t ≡ operate (state m.old p t) when }
 {
     let body = m.body_at(0)?;
@@ -50,7 +51,10 @@ pub(crate) fn branch<'s, 'a>(m: &mut Machine<'s, 'a>) -> Result<Event, Fault>
 }
 
 // what a name means: a body is run once, anything else goes on the stack
-pub(crate) fn call_name<'s, 'a>(m: &mut Machine<'s, 'a>, name: u8) -> Result<Event, Fault>
+pub(crate) fn call_name<'s, 'a, S: Clipping>(
+    m: &mut Machine<'s, 'a, S>,
+    name: u8,
+) -> Result<Event, Fault>
     ensures { (p : Path) (t : Past) → after result m.new p t ≡ call (state m.old p t) (found (names_of m.old) name []) }
 {
     let Some(v) = m.meaning(name) else {

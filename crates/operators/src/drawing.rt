@@ -1,14 +1,18 @@
 ghost use Rattle.std.specs.Prelude.{◌≡◌};
 ghost use Rattle.tokens.specs.Token.{moves, lines, fills, shows};
 ghost use Rattle.machine.specs.Machine.{operate};
-ghost use Rattle.whole_machine.specs.Abstraction.{Past, state, after, after_event};
+ghost use Rattle.machine.specs.Abstraction.{Past, state, after, after_event};
 
+use machine::event::{Event, Fault};
+use machine::stage::Clipping;
+use machine::state::Machine;
 use path::builder::Path;
-use whole_machine::event::{Event, Fault};
-use whole_machine::state::Machine;
 
 // a new subpath begins at a point
-pub(crate) fn move_to<'s, 'a>(m: &mut Machine<'s, 'a>, path: &mut Path<'_>) -> Result<Event, Fault>
+pub(crate) fn move_to<'s, 'a, S: Clipping>(
+    m: &mut Machine<'s, 'a, S>,
+    path: &mut Path<'_>,
+) -> Result<Event, Fault>
     ensures { (t : Past) → after result m.new path.new t ≡ operate (state m.old path.old t) moves }
 {
     let (a, b) = m.two_numbers()?;
@@ -23,7 +27,10 @@ pub(crate) fn move_to<'s, 'a>(m: &mut Machine<'s, 'a>, path: &mut Path<'_>) -> R
 }
 
 // the open subpath goes on to a point
-pub(crate) fn line_to<'s, 'a>(m: &mut Machine<'s, 'a>, path: &mut Path<'_>) -> Result<Event, Fault>
+pub(crate) fn line_to<'s, 'a, S: Clipping>(
+    m: &mut Machine<'s, 'a, S>,
+    path: &mut Path<'_>,
+) -> Result<Event, Fault>
     ensures { (t : Past) → after result m.new path.new t ≡ operate (state m.old path.old t) lines }
 {
     let (a, b) = m.two_numbers()?;
@@ -41,8 +48,8 @@ pub(crate) fn line_to<'s, 'a>(m: &mut Machine<'s, 'a>, path: &mut Path<'_>) -> R
 }
 
 // the path is painted, and none is left
-pub(crate) fn paint_path(path: &mut Path<'_>) -> Event
-    ensures { (m : Machine) (t : Past) → after_event result m path.new t ≡ operate (state m path.old t) fills }
+pub(crate) fn paint_path<'s, 'a, S: Clipping>(_m: &Machine<'s, 'a, S>, path: &mut Path<'_>) -> Event
+    ensures { (t : Past) → after_event result _m.now path.new t ≡ operate (state _m.now path.old t) fills }
 {
     let n = path.used();
     path.clear();
@@ -50,8 +57,8 @@ pub(crate) fn paint_path(path: &mut Path<'_>) -> Event
 }
 
 // what was painted is a page, and no path is left
-pub(crate) fn show_page(path: &mut Path<'_>) -> Event
-    ensures { (m : Machine) (t : Past) → after_event result m path.new t ≡ operate (state m path.old t) shows }
+pub(crate) fn show_page<'s, 'a, S: Clipping>(_m: &Machine<'s, 'a, S>, path: &mut Path<'_>) -> Event
+    ensures { (t : Past) → after_event result _m.now path.new t ≡ operate (state _m.now path.old t) shows }
 {
     path.clear();
     Event::Shown

@@ -1,11 +1,12 @@
-ghost use Rattle.std.specs.Prelude.{◌≡◌};
+ghost use Rattle.std.specs.Prelude.{◌≡◌, true};
 ghost use Rattle.tokens.specs.Token.{clips_by, greys, shifts, scales};
 ghost use Rattle.machine.specs.Machine.{operate};
-ghost use Rattle.whole_machine.specs.Abstraction.{Past, state, after};
+ghost use Rattle.machine.specs.Abstraction.{Past, state, after};
 
+use machine::event::{Event, Fault};
+use machine::stage::Clipping;
+use machine::state::Machine;
 use path::builder::Path;
-use whole_machine::event::{Event, Fault};
-use whole_machine::state::Machine;
 
 // the lightest grey
 const WHITE: u32 = 255;
@@ -14,17 +15,19 @@ const WHITE: u32 = 255;
 const SCALES: u64 = 65536;
 
 // the path is one more clip, and no path is left
-pub(crate) fn clip<'s, 'a>(m: &mut Machine<'s, 'a>, path: &mut Path<'_>) -> Result<Event, Fault>
+pub(crate) fn clip<'s, 'a, S: Clipping>(
+    m: &mut Machine<'s, 'a, S>,
+    path: &mut Path<'_>,
+) -> Result<Event, Fault>
+    requires { S.can 14 ≡ true }
     ensures { (t : Past) → after result m.new path.new t ≡ operate (state m.old path.old t) clips_by }
 {
-    if !m.append_clip(path) {
-        return Err(Fault::LimitExceeded);
-    }
+    m.append_clip(path)?;
     path.clear();
     Ok(Event::On)
 }
 
-pub(crate) fn change_grey<'s, 'a>(m: &mut Machine<'s, 'a>) -> Result<Event, Fault>
+pub(crate) fn change_grey<'s, 'a, S: Clipping>(m: &mut Machine<'s, 'a, S>) -> Result<Event, Fault>
     ensures { (p : Path) (t : Past) → after result m.new p t ≡ operate (state m.old p t) greys }
 {
     let n = m.number_at(0)?;
@@ -37,7 +40,7 @@ pub(crate) fn change_grey<'s, 'a>(m: &mut Machine<'s, 'a>) -> Result<Event, Faul
 }
 
 // the corner moves to where a point is
-pub(crate) fn shift<'s, 'a>(m: &mut Machine<'s, 'a>) -> Result<Event, Fault>
+pub(crate) fn shift<'s, 'a, S: Clipping>(m: &mut Machine<'s, 'a, S>) -> Result<Event, Fault>
     ensures { (p : Path) (t : Past) → after result m.new p t ≡ operate (state m.old p t) shifts }
 {
     let (a, b) = m.two_numbers()?;
@@ -50,7 +53,7 @@ pub(crate) fn shift<'s, 'a>(m: &mut Machine<'s, 'a>) -> Result<Event, Fault>
 }
 
 // the scale becomes so many sixteenths of itself
-pub(crate) fn change_scale<'s, 'a>(m: &mut Machine<'s, 'a>) -> Result<Event, Fault>
+pub(crate) fn change_scale<'s, 'a, S: Clipping>(m: &mut Machine<'s, 'a, S>) -> Result<Event, Fault>
     ensures { (p : Path) (t : Past) → after result m.new p t ≡ operate (state m.old p t) scales }
 {
     let n = m.number_at(0)?;

@@ -1,24 +1,28 @@
-ghost use Rattle.std.specs.Prelude.{◌≡◌};
+ghost use Rattle.std.specs.Prelude.{◌≡◌, true};
+ghost use Rattle.tokens.specs.Token.{number_of};
 ghost use Rattle.tokens.specs.Stored.{operator_of};
 ghost use Rattle.machine.specs.Machine.{operate};
-ghost use Rattle.whole_machine.specs.Abstraction.{Past, state, after};
+ghost use Rattle.machine.specs.Stage.{operate_of};
+ghost use Rattle.machine.specs.Abstraction.{Past, state, after};
 
 use crate::arithmetic::{add, compare, divide, multiply, subtract};
 use crate::calling::{branch, define, repeat};
 use crate::drawing::{line_to, move_to, paint_path, show_page};
 use crate::graphics::{change_grey, change_scale, clip, shift};
 use crate::stack::{copy, discard, swap};
+use machine::event::{Event, Fault};
+use machine::stage::Clipping;
+use machine::state::Machine;
 use path::builder::Path;
 use tokens::Operator;
-use whole_machine::event::{Event, Fault};
-use whole_machine::state::Machine;
 
-// what an operator does
-pub(crate) fn perform<'s, 'a>(
-    m: &mut Machine<'s, 'a>,
+// what an operator of the stage does
+fn perform<'s, 'a, S: Clipping>(
+    m: &mut Machine<'s, 'a, S>,
     path: &mut Path<'_>,
     op: Operator,
 ) -> Result<Event, Fault>
+    requires { S.can (number_of (operator_of op)) ≡ true }
     ensures { (t : Past) → after result m.new path.new t ≡ operate (state m.old path.old t) (operator_of op) }
 {
     match op {
@@ -35,13 +39,28 @@ pub(crate) fn perform<'s, 'a>(
         Operator::When => branch(m),
         Operator::Moves => move_to(m, path),
         Operator::Lines => line_to(m, path),
-        Operator::Fills => Ok(paint_path(path)),
+        Operator::Fills => Ok(paint_path(m, path)),
         Operator::ClipsBy => clip(m, path),
         Operator::Greys => change_grey(m),
         Operator::Shifts => shift(m),
         Operator::Scales => change_scale(m),
         Operator::Keeps => m.keep(),
         Operator::Back => m.restore(),
-        Operator::Shows => Ok(show_page(path)),
+        Operator::Shows => Ok(show_page(m, path)),
+    }
+}
+
+// what an operator does, if the stage can do it
+pub(crate) fn operate<'s, 'a, S: Clipping>(
+    m: &mut Machine<'s, 'a, S>,
+    path: &mut Path<'_>,
+    op: Operator,
+) -> Result<Event, Fault>
+    ensures { (t : Past) → after result m.new path.new t ≡ operate_of S.can (state m.old path.old t) (operator_of op) }
+{
+    if S::does(op) {
+        perform(m, path, op)
+    } else {
+        Ok(Event::Unsupported(op))
     }
 }

@@ -1,13 +1,14 @@
 ghost use Rattle.std.specs.Prelude.{◌≡◌};
 ghost use Rattle.tokens.specs.Token.{copies, drops, swaps};
 ghost use Rattle.machine.specs.Machine.{operate};
-ghost use Rattle.whole_machine.specs.Abstraction.{Past, state, after};
+ghost use Rattle.machine.specs.Abstraction.{Past, state, after};
 
+use machine::event::{Event, Fault};
+use machine::stage::Clipping;
+use machine::state::Machine;
 use path::builder::Path;
-use whole_machine::event::{Event, Fault};
-use whole_machine::state::Machine;
 
-pub(crate) fn copy<'s, 'a>(m: &mut Machine<'s, 'a>) -> Result<Event, Fault>
+pub(crate) fn copy<'s, 'a, S: Clipping>(m: &mut Machine<'s, 'a, S>) -> Result<Event, Fault>
     ensures { (p : Path) (t : Past) → after result m.new p t ≡ operate (state m.old p t) copies }
 {
     let Some(v) = m.operand_at(0) else {
@@ -16,7 +17,7 @@ pub(crate) fn copy<'s, 'a>(m: &mut Machine<'s, 'a>) -> Result<Event, Fault>
     m.push_value(v)
 }
 
-pub(crate) fn discard<'s, 'a>(m: &mut Machine<'s, 'a>) -> Result<Event, Fault>
+pub(crate) fn discard<'s, 'a, S: Clipping>(m: &mut Machine<'s, 'a, S>) -> Result<Event, Fault>
     ensures { (p : Path) (t : Past) → after result m.new p t ≡ operate (state m.old p t) drops }
 {
     let Some(_) = m.operand_at(0) else {
@@ -26,7 +27,7 @@ pub(crate) fn discard<'s, 'a>(m: &mut Machine<'s, 'a>) -> Result<Event, Fault>
     Ok(Event::On)
 }
 
-pub(crate) fn swap<'s, 'a>(m: &mut Machine<'s, 'a>) -> Result<Event, Fault>
+pub(crate) fn swap<'s, 'a, S: Clipping>(m: &mut Machine<'s, 'a, S>) -> Result<Event, Fault>
     ensures { (p : Path) (t : Past) → after result m.new p t ≡ operate (state m.old p t) swaps }
 {
     let Some(b) = m.operand_at(0) else {

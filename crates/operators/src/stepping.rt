@@ -1,17 +1,21 @@
 ghost use Rattle.std.specs.Prelude.{◌≡◌};
-ghost use Rattle.machine.specs.Machine.{step};
-ghost use Rattle.whole_machine.specs.Abstraction.{Past, state, after};
+ghost use Rattle.machine.specs.Stage.{step_of};
+ghost use Rattle.machine.specs.Abstraction.{Past, state, after};
 
 use crate::calling::call_name;
-use crate::perform::perform;
+use crate::perform::operate;
+use machine::event::{Event, Fault};
+use machine::stage::Clipping;
+use machine::state::{Frame, Machine, Value};
 use path::builder::Path;
 use tokens::{Token, next_token};
-use whole_machine::event::{Event, Fault};
-use whole_machine::state::{Frame, Machine, Value};
 
 // the next token of the innermost frame, or its body again, or back to the frame around it
-pub fn step<'s, 'a>(m: &mut Machine<'s, 'a>, path: &mut Path<'_>) -> Result<Event, Fault>
-    ensures { (t : Past) → after result m.new path.new t ≡ step (state m.old path.old t) }
+pub fn step<'s, 'a, S: Clipping>(
+    m: &mut Machine<'s, 'a, S>,
+    path: &mut Path<'_>,
+) -> Result<Event, Fault>
+    ensures { (t : Past) → after result m.new path.new t ≡ step_of S.can (state m.old path.old t) }
 {
     let Some(f) = m.top() else {
         return Ok(Event::Finished);
@@ -37,7 +41,7 @@ pub fn step<'s, 'a>(m: &mut Machine<'s, 'a>, path: &mut Path<'_>) -> Result<Even
             });
             match token {
                 Token::Number(n) => m.push_value(Value::Number(n)),
-                Token::Does(op) => perform(m, path, op),
+                Token::Does(op) => operate(m, path, op),
                 Token::Name(k) => call_name(m, k),
                 Token::Quoted(k) => m.push_value(Value::Label(k)),
                 Token::Body(b) => m.push_value(Value::Body(b)),

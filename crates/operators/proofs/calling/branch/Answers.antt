@@ -3,19 +3,19 @@ use Rattle.std.proofs.lemmas.Result.{err_from_is_err_and}
 use Rattle.std.proofs.lemmas.Bool.{cond-true, cond-false, eq-eqb, ne_eqb}
 use Rattle.tokens.specs.Stored.{decode}
 use Rattle.machine.specs.Machine.{with_stack, with_one, enter, operate}
-use Rattle.whole_machine.specs.Abstraction.{state, stack_of, after}
+use Rattle.machine.specs.Abstraction.{state, stack_of, after}
 use Rattle.operators.proofs.calling.branch.Goals as goal
 
 pub returns-in_err-body : goal.returns-in_err-body
 unfolding operate
-returns-in_err-body c =
+returns-in_err-body g c =
     let m = c.args.m.now in
     let q = err_from_is_err_and c.from_residual.result c.from_residual.ensures.1 in
     λ p t. ap (λ r. after r m p t) (q.1 ∙ ap Err q.2) ∙ sym (c.in_err-body.ensures (state m p t) _)
 
 pub returns-in_err-n : goal.returns-in_err-n
 unfolding operate
-returns-in_err-n c =
+returns-in_err-n g c =
     let m = c.args.m.now in
     let ts = decode c.in_ok-body.body.now in
     let q = err_from_is_err_and c.from_residual-in_err-n.result c.from_residual-in_err-n.ensures.1 in
@@ -26,7 +26,7 @@ returns-in_err-n c =
 
 pub returns-then-n-eq0 : goal.returns-then-n-eq0
 unfolding operate
-returns-then-n-eq0 c =
+returns-then-n-eq0 g c =
     let m = c.args.m.now in
     let ts = decode c.in_ok-body.body.now in
     λ p t.
@@ -36,7 +36,7 @@ returns-then-n-eq0 c =
 
 pub returns-else-n-eq0 : goal.returns-else-n-eq0
 unfolding operate
-returns-else-n-eq0 c =
+returns-else-n-eq0 g c =
     let m = c.args.m.now in
     let ts = decode c.in_ok-body.body.now in
     λ p t.

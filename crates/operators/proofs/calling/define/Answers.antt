@@ -1,16 +1,16 @@
 use Rattle.std.proofs.Common.{◌≡◌, ℕ, List, ◌∷◌, drop, sym, refl, ap, ◌∙◌}
 use Rattle.machine.specs.Machine.{State, Value, ends, on, with_stack, bind, operate}
-use Rattle.whole_machine.specs.Abstraction.{state, stack_of, value_of}
-use Rattle.whole_machine.specs.declared.state.Value as code_value
+use Rattle.machine.specs.Abstraction.{state, stack_of, value_of}
+use Rattle.machine.specs.declared.state.Value as code_value
 use Rattle.operators.proofs.calling.define.Goals as goal
 
 pub returns-in_default : goal.returns-in_default
 unfolding operate bind
-returns-in_default c = λ p t. sym (ap (bind (state c.args.m.now p t)) c.in_default.ensures)
+returns-in_default g c = λ p t. sym (ap (bind (state c.args.m.now p t)) c.in_default.ensures)
 
 pub returns-in_default-operand_at : goal.returns-in_default-operand_at
 unfolding operate bind
-returns-in_default-operand_at c =
+returns-in_default-operand_at g c =
     let v = value_of c.in-Some.v in
     λ p t.
     let s = state c.args.m.now p t in
@@ -25,7 +25,7 @@ wrong_kind (code_value.TheVariants.Label k) s v vs other = absurd (other k refl)
 
 pub returns-in_default-label : goal.returns-in_default-label
 unfolding operate
-returns-in_default-label c =
+returns-in_default-label g c =
     let v = value_of c.in-Some.v in
     λ p t.
     let s = state c.args.m.now p t in
@@ -33,7 +33,7 @@ returns-in_default-label c =
 
 pub returns : goal.returns
 unfolding operate bind
-returns c =
+returns g c =
     let m = c.args.m.now in
     let v = value_of c.in-Some.v in
     let rest = drop 2 (stack_of m) in

@@ -3,13 +3,13 @@ use Rattle.std.proofs.lemmas.Result.{err_from_is_err_and}
 use Rattle.path.specs.Points.{point_of}
 use Rattle.path.specs.Building.{rings_of, ring_of, points_of}
 use Rattle.machine.specs.Machine.{on, ends, line_to, operate, with_stack}
-use Rattle.whole_machine.specs.Abstraction.{state, stack_of, after}
+use Rattle.machine.specs.Abstraction.{state, stack_of, after}
 use Rattle.operators.proofs.PathLaws.{beside, line_to_none, line_to_far, line_to_full, line_to_fits}
 use Rattle.operators.proofs.drawing.line_to.Goals as goal
 
 pub returns-in_err-a : goal.returns-in_err-a
 unfolding operate
-returns-in_err-a c =
+returns-in_err-a g c =
     let m = c.args.m.now in
     let p = c.args.path.now in
     let q = err_from_is_err_and c.from_residual.result c.from_residual.ensures.1 in
@@ -17,7 +17,7 @@ returns-in_err-a c =
 
 pub returns-then-not-is_open : goal.returns-then-not-is_open
 unfolding operate
-returns-then-not-is_open c =
+returns-then-not-is_open g c =
     let m = c.args.m.now in
     let p = c.args.path.now in
     λ t.
@@ -26,7 +26,7 @@ returns-then-not-is_open c =
 
 pub returns-in_default : goal.returns-in_default
 unfolding operate
-returns-in_default c =
+returns-in_default g c =
     let m = c.args.m.now in
     let p = c.args.path.now in
     λ t.
@@ -36,7 +36,7 @@ returns-in_default c =
 
 pub returns-then-not-append_point : goal.returns-then-not-append_point
 unfolding operate
-returns-then-not-append_point c =
+returns-then-not-append_point g c =
     let m = c.args.m.now in
     let p = c.args.path.now in
     let q = c.append_point.new.self in
@@ -51,7 +51,7 @@ returns-then-not-append_point c =
 
 pub returns : goal.returns
 unfolding operate
-returns c =
+returns g c =
     let m = c.args.m.now in
     let p = c.args.path.now in
     let q = c.append_point.new.self in

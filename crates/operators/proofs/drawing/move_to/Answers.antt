@@ -4,13 +4,13 @@ use Rattle.path.specs.Path.{finished}
 use Rattle.path.specs.Points.{point_of}
 use Rattle.path.specs.Building.{rings_of, ring_of}
 use Rattle.machine.specs.Machine.{on, ends, go_to, operate, with_stack}
-use Rattle.whole_machine.specs.Abstraction.{state, stack_of, after}
+use Rattle.machine.specs.Abstraction.{state, stack_of, after}
 use Rattle.operators.proofs.PathLaws.{beside, go_to_far, go_to_full, go_to_fits}
 use Rattle.operators.proofs.drawing.move_to.Goals as goal
 
 pub returns-in_err-a : goal.returns-in_err-a
 unfolding operate
-returns-in_err-a c =
+returns-in_err-a g c =
     let m = c.args.m.now in
     let p = c.args.path.now in
     let q = err_from_is_err_and c.from_residual.result c.from_residual.ensures.1 in
@@ -18,7 +18,7 @@ returns-in_err-a c =
 
 pub returns-in_default : goal.returns-in_default
 unfolding operate
-returns-in_default c =
+returns-in_default g c =
     let m = c.args.m.now in
     let p = c.args.path.now in
     λ t.
@@ -27,7 +27,7 @@ returns-in_default c =
 
 pub returns-then-not-begin_subpath : goal.returns-then-not-begin_subpath
 unfolding operate
-returns-then-not-begin_subpath c =
+returns-then-not-begin_subpath g c =
     let m = c.args.m.now in
     let p = c.args.path.now in
     let q = c.begin_subpath.new.self in
@@ -40,7 +40,7 @@ returns-then-not-begin_subpath c =
 
 pub returns : goal.returns
 unfolding operate
-returns c =
+returns g c =
     let m = c.args.m.now in
     let p = c.args.path.now in
     let q = c.begin_subpath.new.self in

@@ -5,4 +5,4 @@ use Rattle.operators.proofs.drawing.show_page.Goals as goal
 
 pub returns : goal.returns
 unfolding operate
-returns c = search (rules, beside)
+returns g c = search (rules, beside)

@@ -1,15 +1,15 @@
 use Rattle.std.proofs.Common.{◌∷◌, sym, ap, ◌∙◌}
 use Rattle.machine.specs.Machine.{push, top_one, operate}
-use Rattle.whole_machine.specs.Abstraction.{state, value_of}
+use Rattle.machine.specs.Abstraction.{state, value_of}
 use Rattle.operators.proofs.stack.copy.Goals as goal
 
 pub returns-in_default : goal.returns-in_default
 unfolding operate top_one
-returns-in_default c = λ p t. sym (ap (λ vs. top_one (state c.args.m.now p t) vs (λ a us. push (state c.args.m.now p t) (a ∷ us) a)) c.in_default.ensures)
+returns-in_default g c = λ p t. sym (ap (λ vs. top_one (state c.args.m.now p t) vs (λ a us. push (state c.args.m.now p t) (a ∷ us) a)) c.in_default.ensures)
 
 pub returns : goal.returns
 unfolding operate top_one
-returns c =
+returns g c =
     let m = c.args.m.now in
     let v = value_of c.in-Some.v in
     λ p t.

@@ -1,6 +1,6 @@
 use Rattle.std.proofs.Common.{List, ◌∷◌, set, sym, ap, ◌∙◌}
 use Rattle.machine.specs.Machine.{State, Value, Went, on, with_stack, top_two, operate}
-use Rattle.whole_machine.specs.Abstraction.{state, value_of}
+use Rattle.machine.specs.Abstraction.{state, value_of}
 use Rattle.operators.proofs.stack.swap.Goals as goal
 
 abbrev swapped : State → List Value → Went
@@ -8,11 +8,11 @@ swapped s vs = top_two s vs (λ a b us. on (with_stack s (a ∷ (b ∷ us))))
 
 pub returns-in_default : goal.returns-in_default
 unfolding operate top_two
-returns-in_default c = λ p t. sym (ap (swapped (state c.args.m.now p t)) c.in_default.ensures)
+returns-in_default g c = λ p t. sym (ap (swapped (state c.args.m.now p t)) c.in_default.ensures)
 
 pub returns-in_default-operand_at : goal.returns-in_default-operand_at
 unfolding operate top_two
-returns-in_default-operand_at c =
+returns-in_default-operand_at g c =
     let v = value_of c.in-Some.b in
     λ p t.
     let s = state c.args.m.now p t in
@@ -20,7 +20,7 @@ returns-in_default-operand_at c =
 
 pub returns : goal.returns
 unfolding operate top_two
-returns c =
+returns g c =
     let m = c.args.m.now in
     let b = value_of c.in-Some.b in
     let a = value_of c.in-Some-operand_at.a in
