@@ -1,7 +1,6 @@
 -- Clips in words, over plain lists: what one more clip leaves, and that a write behind some words leaves them.
-use Rattle.std.proofs.Common.{◌≡◌, ℕ, zero, suc, ◌+◌, ◌*◌, ◌<◌, ◌≤◌, List, [], ◌∷◌, ◌++◌, map, reverse, length, get_or, take, drop, set, sym, refl, ap, ◌∙◌, arith}
-use lib.Seq.{take-set-le}
-use Rattle.std.proofs.lemmas.List.{append-nil, append_assoc, reverse-append, map-append, take_at, drop_at, take_more, take_more_set, take_all}
+use Rattle.std.proofs.Common.{◌≡◌, ℕ, ◌+◌, ◌*◌, List, [], ◌∷◌, ◌++◌, map, reverse, length, take, drop, sym, refl, ap, ◌∙◌, arith}
+use Rattle.std.proofs.lemmas.List.{append-nil, append_assoc, reverse-append, map-append, take_at, drop_at}
 use Rattle.path.specs.Path.{Ring, points, finished}
 use Rattle.path.specs.Stored.{pieces, rings_in, paths_in}
 use Rattle.path.proofs.StoredLaws.{pieces_none, pieces_more, total_push, finished_none, finished_some}

@@ -1,9 +1,8 @@
 -- Graphics states in force and kept, over plain lists: what more words of clips leave of them.
-use Rattle.std.proofs.Common.{◌≡◌, ℕ, ◌+◌, ◌*◌, ◌≤◌, List, [], ◌∷◌, ◌++◌, map, length, take, drop, set, sym, refl, ap, ◌∙◌, arith, length-set, length-append}
+use Rattle.std.proofs.Common.{◌≡◌, ℕ, ◌+◌, ◌≤◌, List, [], ◌∷◌, ◌++◌, map, length, take, drop, set, sym, refl, ap, ◌∙◌, arith, length-set, length-append}
 use Rattle.std.proofs.lemmas.List.{take-take, take_at, take_more_set, append_assoc, length-take-le}
-use Rattle.path.specs.Path.{Ring}
 use Rattle.machine.specs.Machine.{Manner, State, with_manner}
-use Rattle.machine.specs.Clips.{clips_in, clip_words, weight_in, Whole, Weighs, Well, Kept}
+use Rattle.machine.specs.Clips.{clips_in, clip_words, weight_in, Well, Kept}
 use Rattle.path.specs.Stored.{pieces}
 use Rattle.machine.specs.Abstraction.{graphics_of}
 use Rattle.machine.specs.declared.graphics.GraphicsState.{GraphicsState}

@@ -1,6 +1,5 @@
 -- Lists by what their items mean: the item that stands so far below the top, and another one or none in place of the top.
-use Rattle.std.proofs.Common.{◌≡◌, ℕ, zero, suc, ◌+◌, List, [], ◌∷◌, map, drop, Option, Some, None, MatchOption, slice_get, slice_set, sym, refl, ap, ◌∙◌, subst, arith}
-use Rattle.machine.specs.Machine.{Frame}
+use Rattle.std.proofs.Common.{◌≡◌, ℕ, zero, suc, ◌+◌, List, [], ◌∷◌, map, drop, Option, MatchOption, slice_get, slice_set, sym, refl, subst, arith}
 use Rattle.machine.specs.Abstraction.{frame_of, tail, topped}
 use Rattle.machine.specs.declared.state.Frame as CodeFrame
 

@@ -3,8 +3,10 @@ use Rattle.std.proofs.Common.{◌≡◌, ℕ, zero, suc, ◌+◌, ◌-◌, ◌*�
 use Rattle.std.proofs.lemmas.Bool.{cond-true}
 use Rattle.path.specs.Path.{Ring, points}
 use Rattle.tokens.specs.Token.{Token, number, does, name, quoted, body, Tokens, none, more, Operator, number_of, adds, takes, multiplies, divides, is_less, copies, drops, swaps, defines, repeats, when, moves, lines, fills, clips_by, greys, shifts, scales, keeps, back, shows, InRange, AllInRange}
+use Rattle.tokens.specs.Stage.{whole}
 use Rattle.machine.specs.Machine.{State, Frame, Binding, Manner, Value, amount, code, label, Went, on, ends, with_stack, with_frames, push, push_number, with_one, with_two, with_code, enter, placed, near_enough, go_to, line_to, whole_path, points_in_all, bind, top_one, top_two, back_to, found, rebound, call, operate, run_token, advance, step_in, go_on, run, begin}
-use Rattle.machine.specs.Stage.{operate_of, run_token_of, advance_of, step_by_frame, step_of, run_of, StagesAreWhole}
+use Rattle.machine.specs.Numbers.{unsupported}
+use Rattle.machine.specs.Stage.{operate_of, run_token_of, advance_of, step_by_frame, run_of, StagesAreWhole, WholeIsWhole}
 
 module _ (can : ℕ → Bool) where
   abbrev Fit : Value → Type 0
@@ -215,3 +217,32 @@ module _ (can : ℕ → Bool) where
 
 pub stages_are_whole : StagesAreWhole
 stages_are_whole can ts n h = same_run can n (begin ts) (record { stack = tt; names = tt; frames = (h, tt, tt) })
+
+-- the stage of all operators takes every step of the whole machine
+every_token : (s : State) (t : Token) → run_token_of whole s t ≡ run_token s t
+unfolding run_token_of run_token operate_of
+every_token s (number n) = refl
+every_token s (does k) = cond-true (whole (number_of k)) (operate s k) (ends (unsupported k) s) refl
+every_token s (name k) = refl
+every_token s (quoted k) = refl
+every_token s (body ts) = refl
+
+every_advance : (s : State) (f : Frame) (fs : List Frame) (r : Tokens) → advance_of whole s f fs r ≡ advance s r f.again f.whole fs
+unfolding advance_of advance
+every_advance s f fs none = refl
+every_advance s f fs (more t ts) = every_token (with_frames s (record { rest = ts; again = f.again; whole = f.whole } ∷ fs)) t
+
+every_step : (s : State) (fs : List Frame) → step_by_frame whole s fs ≡ step_in s fs
+unfolding step_by_frame step_in
+every_step s [] = refl
+every_step s (f ∷ fs) = every_advance s f fs f.rest
+
+every_on : (w : Went) (f g : State → Went) → ((t : State) → f t ≡ g t) → go_on w f ≡ go_on w g
+unfolding go_on
+every_on (on s) f g same = same s
+every_on (ends e s) f g same = refl
+
+pub whole_is_whole : WholeIsWhole
+unfolding run_of run
+whole_is_whole zero s = refl
+whole_is_whole (suc n) s = ap (λ w. go_on w (λ t. run_of whole n t)) (every_step s s.frames) ∙ every_on (step_in s s.frames) (λ t. run_of whole n t) (λ t. run n t) (λ t. whole_is_whole n t)

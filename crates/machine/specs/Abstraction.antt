@@ -1,5 +1,5 @@
 -- What the code's machine, its path and its events mean to the written machine. The code holds nothing that was painted or shown before: a state is one for any such past. Cited by the contracts of this crate and of those who drive a machine. Assumes nothing: these are definitions.
-use Rattle.std.specs.Prelude.{◌≡◌, ℕ, ◌+◌, ◌*◌, ◌^◌, ◌<◌, Bool, true, false, List, [], ◌∷◌, ◌++◌, map, reverse, length, take, Some, None, Ok, Err, Option, Result, nat_le, slice_index_or}
+use Rattle.std.specs.Prelude.{◌≡◌, ℕ, ◌+◌, ◌*◌, ◌^◌, ◌<◌, Bool, true, false, List, [], ◌∷◌, ◌++◌, map, length, take, Some, None, Ok, Err, Option, Result, nat_le, slice_index_or}
 use Rattle.std.specs.Borrow.{Bor}
 use Rattle.stack.specs.Contents.{top_down}
 use Rattle.tokens.specs.Token.{Tokens}

@@ -1,5 +1,5 @@
 -- What is said of kept states is a fact, and no data: a ghost field may hold it.
-use Rattle.std.proofs.Common.{ℕ, ◌≤◌, List, [], ◌∷◌}
+use Rattle.std.proofs.Common.{ℕ, List, [], ◌∷◌}
 use Rattle.std.specs.Coded.{le_prop, Coded-set, coded_list, coded_ℕ}
 use mathlib.Core.HLevel.{×_prop, Unit-prop}
 use Rattle.machine.specs.Clips.{Well, Kept}

@@ -1,7 +1,7 @@
 -- The written machine as far as a stage does its operators: at another one it ends with 9 and the operator's number, its token taken. On tokens without such operators it is the whole machine (StagesAreWhole). Cited by the contracts of steps and runs. Assumes nothing: these are definitions.
 use Rattle.std.specs.Prelude.{◌≡◌, ℕ, zero, suc, Bool, cond, List, [], ◌∷◌}
 use Rattle.tokens.specs.Token.{Token, number, does, name, quoted, body, Tokens, none, more, Operator, number_of, AllInRange}
-use Rattle.tokens.specs.Stage.{stage}
+use Rattle.tokens.specs.Stage.{stage, whole}
 use Rattle.machine.specs.Machine.{Frame, State, Went, ends, with_frames, operate, run_token, advance, go_on, at_end, run, begin}
 use Rattle.machine.specs.Numbers.{unsupported}
 
@@ -35,6 +35,10 @@ module _ (can : ℕ → Bool) where
 -- on tokens of a stage, in bodies too, a run of it is a run of the whole machine
 abbrev pub StagesAreWhole : Type 0
 StagesAreWhole = (can : ℕ → Bool) (ts : Tokens) (n : ℕ) → AllInRange can ts → run_of can n (begin ts) ≡ run n (begin ts)
+
+-- the stage of all operators is the whole machine, from any state
+abbrev pub WholeIsWhole : Type 0
+WholeIsWhole = (n : ℕ) (s : State) → run_of whole n s ≡ run n s
 
 -- the stage that was first
 abbrev pub step_in_stage : State → Went

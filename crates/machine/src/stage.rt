@@ -1,6 +1,6 @@
 ghost use Rattle.std.specs.Prelude.{◌≡◌, ℕ, ◌≤◌, true};
 ghost use Rattle.std.proofs.Common.{rules};
-ghost use Rattle.machine.specs.Stage.{StageIsWhole, StagesAreWhole};
+ghost use Rattle.machine.specs.Stage.{StageIsWhole, StagesAreWhole, WholeIsWhole};
 
 use tokens::{Stage, Thin, Whole};
 
@@ -34,6 +34,13 @@ pub fn stage_is_whole() -> u8
 // and so is a run of any stage
 pub fn stages_are_whole() -> u8
     ensures { StagesAreWhole }
+{
+    0
+}
+
+// and a run of the stage of all operators is one of the whole machine, from any state
+pub fn whole_is_whole() -> u8
+    ensures { WholeIsWhole }
 {
     0
 }

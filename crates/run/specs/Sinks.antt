@@ -1,18 +1,27 @@
 -- What whoever drives a machine has seen: everything painted and every page shown, in order. Cited by the contract of a run. Assumes nothing: these are definitions.
-use Rattle.std.specs.Prelude.{List, [], ◌∷◌, ℕ}
-use Rattle.tokens.specs.Stored.{operator_of}
+use Rattle.std.specs.Prelude.{◌≡◌, ℕ, ◌≤◌, Bool, true, false, List, [], ◌∷◌, length}
 use Rattle.path.specs.Path.{Paint}
-use Rattle.machine.specs.Machine.{Went}
-use Rattle.machine.specs.Laws.{state_of}
-use Rattle.machine.specs.Stage.{unsupported}
-use Rattle.machine.specs.Abstraction.{Past, fault_number}
+use Rattle.tokens.specs.Stored.{operator_of}
+use Rattle.machine.specs.Machine.{State, Went}
+use Rattle.machine.specs.Laws.{state_of, end_of}
+use Rattle.machine.specs.Numbers.{fault_number, unsupported}
+use Rattle.machine.specs.Stage.{run_of}
+use Rattle.machine.specs.Abstraction.{Past}
 use Rattle.run.specs.declared.drive.Ending.{Ending}
-use Rattle.run.specs.declared.drive.Ending.TheVariants.{Finished, Failed, Unsupported}
+use Rattle.run.specs.declared.drive.Ending.TheVariants.{Finished, Failed, Unsupported, Stopped}
 
+-- a run that its sink has stopped has come to no end of its own
 abbrev pub ending_number : Ending → ℕ
 ending_number Finished = 0
 ending_number (Failed f) = fault_number f
 ending_number (Unsupported op) = unsupported (operator_of op)
+ending_number Stopped = 0
+
+abbrev pub is_stopped : Ending → Bool
+is_stopped Finished = false
+is_stopped (Failed f) = false
+is_stopped (Unsupported op) = false
+is_stopped Stopped = true
 
 -- where a run has come to, as what was painted and shown
 abbrev pub past_of : Went → Past
@@ -29,3 +38,14 @@ all_shown f g (ps ∷ pss) v = all_shown f g pss (g (all_painted f ps v))
 
 abbrev pub told : {V : Type 0} → (Paint → V → V) → (V → V) → Past → V → V
 told f g t v = all_painted f t.paints (all_shown f g t.pages v)
+
+-- A run of a stage from a state under a count of steps, with a sink that had seen one thing before and has seen another after it: all steps are taken and it ends as
+-- the written run does, or the sink wanted no more after so many of them; in each case it was told what the run up to there has painted and shown
+pub record Driven (can : ℕ → Bool) {V : Type 0} (paint : Paint → V → V) (page : V → V) (wants : V → Bool) (r : Ending) (steps : ℕ) (s : State) (before after : V) : Type 0 where
+  pub taken : ℕ
+  pub within : taken ≤ steps
+  pub seen : after ≡ told paint page (past_of (run_of can taken s)) before
+  pub few : length (state_of (run_of can taken s)).pages ≤ taken
+  pub whole : is_stopped r ≡ false → taken ≡ steps
+  pub ended : is_stopped r ≡ false → ending_number r ≡ end_of (run_of can steps s)
+  pub enough : is_stopped r ≡ true → wants after ≡ false

@@ -1,25 +1,32 @@
-ghost use Rattle.std.specs.Prelude.{◌≡◌, List, ◌≤◌, length};
+ghost use Rattle.std.specs.Prelude.{◌≡◌, Bool, false, List};
 ghost use Rattle.std.specs.Borrow.{GName};
 ghost use Rattle.path.specs.Path.{Paint};
-ghost use Rattle.machine.specs.Laws.{state_of, end_of};
-ghost use Rattle.machine.specs.Stage.{run_in_stage};
+ghost use Rattle.path.specs.Extent.{ExtentOf};
+ghost use Rattle.path.specs.Stored.{rings_in};
 ghost use Rattle.machine.specs.Abstraction.{no_past, state, paint_in};
-ghost use Rattle.run.specs.Sinks.{ending_number, past_of, told};
+ghost use Rattle.machine.specs.Laws.{state_of};
+ghost use Rattle.machine.specs.Stage.{run_of};
+ghost use Rattle.run.specs.Sinks.{Driven, is_stopped, past_of};
 
 use machine::event::{Event, Fault};
-use machine::machine::Machine;
+use machine::stage::Clipping;
+use machine::state::Machine;
+use operators::stepping::step;
 use path::builder::Path;
+use path::extent::Extent;
 use tokens::Operator;
 
-// how a job ends: by itself, by a fault, or at an operator that this stage can't do
-#[derive(Clone, Copy)]
+// how a run ends: by itself, by a fault, at an operator that its stage can't do; or its sink has seen enough
+#[derive(Clone, Copy, Debug, PartialEq, Eq)]
 pub enum Ending {
     Finished,
     Failed(Fault),
     Unsupported(Operator),
+    Stopped,
 }
 
-// What is done with what a job paints and shows. `lent` names the memory that a sink holds: the same at each event.
+// What is done with what a job paints and shows; after a page a sink says whether it wants more. `lent` names the
+// memory that a sink holds: the same at each event.
 pub trait Sink: Sized {
     ghost View: { Type 0 };
 
@@ -29,39 +36,52 @@ pub trait Sink: Sized {
 
     ghost page: { View → View };
 
+    ghost more: { View → Bool };
+
     ghost lent: { Self → List GName };
 
-    fn painted(&mut self, path: &[u64], clips: &[u64], grey: u8)
-        ensures seen { view self.new ≡ paint (paint_in path.now clips.now grey) (view self.old) }
+    fn painted(&mut self, path: &[u64], extent: Extent, clips: &[u64], grey: u8)
+        ensures seen { ExtentOf extent (rings_in path.now) → view self.new ≡ paint (paint_in path.now clips.now grey) (view self.old) }
         ensures lent { lent self.new ≡ lent self.old };
 
-    fn shown(&mut self)
+    fn shown(&mut self) -> bool
+        ensures value { result ≡ more (view self.new) }
         ensures seen { view self.new ≡ page (view self.old) }
         ensures lent { lent self.new ≡ lent self.old };
 }
 
-// Runs a job to its end, or until its steps are used up, and tells the sink what it paints and shows.
-pub fn drive<'s, 'a, E: Sink>(
-    m: &mut Machine<'s, 'a>,
+// Runs a job to its end, until its steps are used up, or until its sink wants no more, and tells the sink what it
+// paints and shows.
+pub fn drive<'s, 'a, S: Clipping, E: Sink>(
+    m: &mut Machine<'s, 'a, S>,
     path: &mut Path<'_>,
     sink: &mut E,
     steps: u32,
 ) -> Ending
-    ensures ended { ending_number result ≡ end_of (run_in_stage steps (state m.old path.old no_past)) }
-    ensures seen { E.Sink.view sink.new ≡ told E.Sink.paint E.Sink.page (past_of (run_in_stage steps (state m.old path.old no_past))) (E.Sink.view sink.old) }
-    ensures few { length (state_of (run_in_stage steps (state m.old path.old no_past))).pages ≤ steps }
+    ensures driven { Driven S.can E.Sink.paint E.Sink.page E.Sink.more result steps (state m.old path.old no_past) (E.Sink.view sink.old) (E.Sink.view sink.new) }
+    ensures after { is_stopped result ≡ false → state m.new path.new (past_of (run_of S.can steps (state m.old path.old no_past))) ≡ state_of (run_of S.can steps (state m.old path.old no_past)) }
     ensures lent { E.Sink.lent sink.new ≡ E.Sink.lent sink.old }
-    ensures after { state m.new path.new (past_of (run_in_stage steps (state m.old path.old no_past))) ≡ state_of (run_in_stage steps (state m.old path.old no_past)) }
 {
     for i in 0..steps {
-        let event = match m.step(path) {
+        let event = match step(m, path) {
             Ok(event) => event,
             Err(fault) => return Ending::Failed(fault),
         };
         match event {
             Event::On => {}
-            Event::Painted(n) => sink.painted(path.front(n), m.clip_words(), m.grey()),
-            Event::Shown => sink.shown(),
+            Event::Painted(n) => {
+                sink.painted(
+                    path.front(n),
+                    path.front_extent(n),
+                    m.clip_words(),
+                    m.grey(),
+                )
+            }
+            Event::Shown => {
+                if !sink.shown() {
+                    return Ending::Stopped;
+                }
+            }
             Event::Finished => return Ending::Finished,
             Event::Unsupported(op) => return Ending::Unsupported(op),
         }

@@ -1,14 +1,14 @@
-use native.Mathlib.Omega.{arith}
-use mathlib.Core.Path.{◌≡◌, refl, ap, ◌∙◌}
-use mathlib.Core.List.{List, [], ◌∷◌}
-use Prim.Native.Nat.{ℕ, ◌+◌, ◌%◌, ◌<◌, ◌≤◌}
-use lib.ListN.{length}
+use Rattle.std.proofs.Common.{◌≡◌, ℕ, ◌+◌, ◌%◌, ◌<◌, ◌≤◌, true, false, List, [], ◌∷◌, length, refl, ap, ◌∙◌, inl, inr, arith}
 use Rattle.tokens.specs.Stored.{decode}
 use Rattle.path.specs.Path.{Paint}
 use Rattle.machine.specs.Machine.{begin}
-use Rattle.machine.specs.Stage.{run_in_stage}
+use Rattle.machine.specs.Laws.{state_of}
+use Rattle.machine.specs.Stage.{run_of}
 use Rattle.machine.specs.Abstraction.{Past}
-use Rattle.run.specs.Sinks.{past_of, all_painted, all_shown, told}
+use Rattle.std.proofs.lemmas.Bool.{cases_Bool}
+use Rattle.run.specs.declared.drive.Ending.{Ending}
+use Rattle.run.specs.Sinks.{is_stopped, past_of, all_painted, all_shown, told}
+use Rattle.run.proofs.Driving.{never}
 use Rattle.run.proofs.count.count_pages.Goals as goal
 
 abbrev paint : Paint → ℕ → ℕ
@@ -44,7 +44,19 @@ exact k n t e few small =
     let less = below t.pages 0 (omega arith) in
     omega arith
 
+-- a sink that always wants more is never left before the end
+goes_on : (r : Ending) → (is_stopped r ≡ true → true ≡ false) → is_stopped r ≡ false
+goes_on r h = elim (cases_Bool (is_stopped r)) [ inl e ↦ never {b = true} (h e) refl | inr runs ↦ runs ]
+
 pub returns : goal.returns
-returns c =
-    let t = past_of (run_in_stage c.args.steps (begin (decode c.args.tokens.now))) in
-    record { pages = exact _ c.args.steps t c.run_job-ending.ensures.seen c.run_job-ending.ensures.few (omega arith); words = c.run_job-ending.ensures.words; clips = c.run_job-ending.ensures.clips; ended = c.run_job-ending.ensures.ended }
+returns g c =
+    let d = c.run_job-ending.ensures.driven in
+    let runs = goes_on c.run_job-ending.result d.enough in
+    let all = d.whole runs in
+    let first = begin (decode c.args.tokens.now) in
+    record {
+      pages = exact _ d.taken (past_of (run_of g.S.Stage.can d.taken first)) d.seen d.few (omega arith) ∙ ap (λ n. length (state_of (run_of g.S.Stage.can n first)).pages) all;
+      words = c.run_job-ending.ensures.words;
+      clips = c.run_job-ending.ensures.clips;
+      ended = d.ended runs;
+    }

@@ -1,4 +1,4 @@
-use Rattle.std.proofs.Common.{◌≡◌, false, None, get_or, length, sym, ap, ◌∙◌, arith}
+use Rattle.std.proofs.Common.{false, get_or, length, sym, ap, ◌∙◌, arith}
 use Rattle.std.proofs.lemmas.List.{get_or-replicate}
 use Rattle.machine.specs.Names.{flags, unset}
 use Rattle.machine.proofs.NameLaws.{flags_none, unset_all, listed_none, distinct_none}

@@ -1,4 +1,4 @@
-use Rattle.std.proofs.Common.{◌≡◌, ℕ, ◌+◌, ◌*◌, ◌≤◌, false, List, ◌∷◌, ◌++◌, length, take, sym, refl, ap, ◌∙◌, subst, arith, length-set}
+use Rattle.std.proofs.Common.{◌≡◌, ℕ, ◌+◌, ◌*◌, ◌≤◌, List, ◌∷◌, ◌++◌, length, take, sym, refl, ap, ◌∙◌, subst, arith, length-set}
 use Rattle.std.proofs.lemmas.Bool.{le-leb, lt-leb}
 use Rattle.std.proofs.lemmas.List.{length-take-le}
 use Rattle.stack.specs.Contents.{top_down}
@@ -7,7 +7,7 @@ use Rattle.path.specs.Stored.{rings_in}
 use Rattle.path.specs.Building.{rings_of, ring_of, points_of}
 use Rattle.path.specs.declared.builder.Path.{Path}
 use Rattle.machine.specs.Machine.{Manner, points_in_all}
-use Rattle.machine.specs.Clips.{clips_in, weight_in, Weighs, Well, Kept}
+use Rattle.machine.specs.Clips.{clips_in, weight_in, Weighs, Well}
 use Rattle.machine.specs.declared.graphics.GraphicsState.{GraphicsState}
 use Rattle.machine.proofs.ClipLaws.{whole_more, clips_more, weighs_more, points_finished}
 use Rattle.machine.proofs.KeepLaws.{put_front, put_before, kept_clipped, saved_clipped}

@@ -1,4 +1,4 @@
-use Rattle.std.proofs.Common.{◌≡◌, [], sym, ap, subst, arith}
+use Rattle.std.proofs.Common.{sym, ap, subst, arith}
 use Rattle.machine.specs.Machine.{Manner}
 use Rattle.machine.specs.Clips.{Kept}
 use Rattle.machine.proofs.ClipLaws.{whole_none, weight_none, no_clips}

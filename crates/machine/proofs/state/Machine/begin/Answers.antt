@@ -1,4 +1,4 @@
-use Rattle.std.proofs.Common.{◌≡◌, List, [], ◌∷◌, map, ap, ◌∙◌}
+use Rattle.std.proofs.Common.{List, [], ◌∷◌, map, ap, ◌∙◌}
 use Rattle.tokens.specs.Stored.{decode}
 use Rattle.machine.specs.Machine.{Frame}
 use Rattle.machine.specs.Abstraction.{value_of, frame_of}

@@ -1,8 +1,7 @@
-use Rattle.std.proofs.Common.{◌≡◌, List, ◌∷◌, map, length, sym, refl, ap, ◌∙◌, arith}
+use Rattle.std.proofs.Common.{List, ◌∷◌, map, length, sym, refl, ap, ◌∙◌, arith}
 use lib.ListN.{length-map}
 use Rattle.std.proofs.lemmas.Bool.{cond-true, lt-ltb}
-use Rattle.tokens.specs.Token.{none}
-use Rattle.tokens.specs.Stored.{decode, decode_in}
+use Rattle.tokens.specs.Stored.{decode}
 use Rattle.stack.specs.Contents.{top_down}
 use Rattle.machine.specs.Machine.{Frame, on, with_frames}
 use Rattle.machine.specs.Abstraction.{state, frame_of, frames_of}
