@@ -2,12 +2,12 @@ ghost use Rattle.std.specs.Prelude.{◌≡◌, ◌+◌, ◌<◌, ◌≤◌, [], 
 ghost use Rattle.text.specs.declared.refusal.Refusal.TheVariants.{Unreadable, TooLarge};
 ghost use Rattle.lexer.specs.Reading.{cannot_read, above_limit, fine, read};
 ghost use Rattle.lexer.specs.Lexing.{from};
-ghost use Rattle.tokens.specs.Stage.{stage};
 ghost use Rattle.text.specs.Limits.{Admits, place_in};
 ghost use Rattle.text.specs.Refusing.{passed_with, Checked};
 
 use super::refusal::Refusal;
 use lexer::{Lexeme, lexeme_at};
+use tokens::Stage;
 use words::meaning::plain_token;
 use words::names::NAMES;
 
@@ -81,23 +81,23 @@ fn place(lexeme: Lexeme) -> Option<usize>
 }
 
 // The counts with one lexeme more; none where it is above a limit.
-fn admit<'a>(lexeme: Lexeme<'a>, counts: Counts, names: &mut [&'a [u8]]) -> Option<Counts>
+fn admit<'a, S: Stage>(
+    lexeme: Lexeme<'a>,
+    counts: Counts,
+    names: &mut [&'a [u8]],
+) -> Option<Counts>
     requires { (length names.old ≡ 256) × (counts.known ≤ 256) }
-    ensures { Admits result lexeme.entry counts names.old names.new }
+    ensures { Admits S.can result lexeme.entry counts names.old names.new }
 {
     let Counts {
         tokens,
         depth,
         known,
     } = counts;
-    let Some(tokens) = one_more(tokens, TOKENS) else {
-        return None;
-    };
+    let tokens = one_more(tokens, TOKENS)?;
     match lexeme {
         Lexeme::Open { .. } => {
-            let Some(depth) = one_more(depth, DEPTH) else {
-                return None;
-            };
+            let depth = one_more(depth, DEPTH)?;
             Some(Counts {
                 tokens,
                 depth,
@@ -110,9 +110,7 @@ fn admit<'a>(lexeme: Lexeme<'a>, counts: Counts, names: &mut [&'a [u8]]) -> Opti
             known,
         }),
         _ => {
-            let Some((_, known)) = plain_token(lexeme, names, known) else {
-                return None;
-            };
+            let (_, known) = plain_token::<S>(lexeme, names, known)?;
             Some(Counts {
                 tokens,
                 depth,
@@ -123,9 +121,12 @@ fn admit<'a>(lexeme: Lexeme<'a>, counts: Counts, names: &mut [&'a [u8]]) -> Opti
 }
 
 // How many tokens a text that can be read has, braces counted, or the first that is above a limit.
-fn within_limits<'a>(source: &'a [u8], names: &mut [&'a [u8]]) -> Result<usize, Refusal>
+fn within_limits<'a, S: Stage>(
+    source: &'a [u8],
+    names: &mut [&'a [u8]],
+) -> Result<usize, Refusal>
     requires { (length names.old ≡ 256) × (cannot_read (from source.now 0) (length source.now) 0 ≡ fine) }
-    ensures { result ≡ passed_with TooLarge (length (from source.now 0)) (above_limit (from source.now 0) stage 0 0 []) }
+    ensures { result ≡ passed_with TooLarge (length (from source.now 0)) (above_limit (from source.now 0) S.can 0 0 []) }
 {
     let mut at = 0;
     let mut counts = Counts {
@@ -138,7 +139,7 @@ fn within_limits<'a>(source: &'a [u8], names: &mut [&'a [u8]]) -> Result<usize, 
         let Some(place) = place(lexeme) else {
             return Ok(counts.tokens);
         };
-        let Some(more) = admit(lexeme, counts, names) else {
+        let Some(more) = admit::<S>(lexeme, counts, names) else {
             return Err(Refusal::TooLarge { place });
         };
         counts = more;
@@ -158,15 +159,13 @@ fn short(source: &[u8]) -> Option<usize>
 }
 
 // How many tokens a text has, braces counted, or why and where it is refused; no memory is needed for it.
-pub fn count_tokens(source: &[u8]) -> Result<usize, Refusal>
-    ensures { Checked result (read stage source.now) }
+pub fn count_tokens<S: Stage>(source: &[u8]) -> Result<usize, Refusal>
+    ensures { Checked result (read S.can source.now) }
 {
-    if let Err(refusal) = readable(source) {
-        return Err(refusal);
-    }
+    readable(source)?;
     let Some(_) = short(source) else {
         return Err(Refusal::TooLarge { place: 0 });
     };
     let mut names = [&source[0..0]; NAMES];
-    within_limits(source, &mut names)
+    within_limits::<S>(source, &mut names)
 }

@@ -8,7 +8,7 @@ use Rattle.text.proofs.store.store_all.Goals as goal
 
 -- the row of the whole text is its tokens
 pub returns : goal.returns
-returns c =
+returns g c =
     let row = c.store_row.ensures.row in
     let n = c.store_row.result.used in
     let is : turned row.row none ≡ build (from c.args.source.now 0) [] [] [] = sym (row.built [] [] refl ∙ ap (λ z. turned z none) (append-nil row.row)) in
