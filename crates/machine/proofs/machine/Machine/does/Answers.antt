@@ -1,8 +1,8 @@
 use Rattle.std.proofs.Common.{◌≡◌, refl, rules}
 use Rattle.tokens.specs.Token.{number_of}
 use Rattle.tokens.specs.Stored.{operator_of}
-use Rattle.tokens.specs.declared.Operator as code_operator
-use Rattle.tokens.specs.declared.Operator.TheVariants.{Moves, Lines, Fills, Greys, Shows}
+use Rattle.tokens.specs.declared.operator.Operator as code_operator
+use Rattle.tokens.specs.declared.operator.Operator.TheVariants.{Moves, Lines, Fills, Greys, Shows}
 use Rattle.machine.specs.Machine.{State, ends}
 use Rattle.machine.specs.Stage.{unsupported, operate_in_stage}
 use Rattle.machine.specs.Abstraction.{state}
