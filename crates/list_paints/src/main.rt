@@ -7,7 +7,7 @@ use std::alloc::{AllocError, Global};
 use std::io::{Read, Write};
 use std::process::ExitCode;
 use std::{env, fs, io};
-use whole_text::refusal::Refusal;
+use text::refusal::Refusal;
 
 const USAGE: &str = "list_paints [--steps N] FILE
 

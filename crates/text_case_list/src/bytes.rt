@@ -2,6 +2,7 @@ use std::alloc::{AllocError, Global};
 use std::io;
 use text::count_tokens;
 use text::refusal::Refusal;
+use tokens::Stage;
 
 // What stands before and behind a byte.
 struct Around {
@@ -70,28 +71,28 @@ fn sign(answer: Result<usize, Refusal>, tried: usize) -> char {
     }
 }
 
-fn sign_of(heap: Global, around: &Around, byte: u8) -> Result<char, AllocError> {
+fn sign_of<S: Stage>(heap: Global, around: &Around, byte: u8) -> Result<char, AllocError> {
     let mut source = around.before.to_vec(heap)?;
     source.push(byte)?;
     source.extend_from_slice(around.behind)?;
-    Ok(sign(count_tokens(source.as_slice()), around.before.len()))
+    Ok(sign(count_tokens::<S>(source.as_slice()), around.before.len()))
 }
 
 // The answers for 64 bytes, from the first on.
-fn report_row(rt: &HostRuntime, around: &Around, first: u8) -> io::Result<()> {
+fn report_row<S: Stage>(rt: &HostRuntime, around: &Around, first: u8) -> io::Result<()> {
     let heap = rt.alloc();
     let mut signs = String::new(heap);
     for k in 0..64u8 {
-        signs.push(sign_of(heap, around, first.saturating_add(k))?)?;
+        signs.push(sign_of::<S>(heap, around, first.saturating_add(k))?)?;
     }
     let name = around.name;
     println!(rt; "{name}, byte {first} and on: {signs}")
 }
 
-pub fn report_bytes(rt: &HostRuntime) -> io::Result<()> {
+pub fn report_bytes<S: Stage>(rt: &HostRuntime) -> io::Result<()> {
     for around in &AROUND {
         for first in [0, 64, 128, 192] {
-            report_row(rt, around, first)?;
+            report_row::<S>(rt, around, first)?;
         }
     }
     Ok(())

@@ -1,6 +1,7 @@
 use super::report::report;
 use std::alloc::{AllocError, Global};
 use std::io;
+use tokens::Stage;
 
 // A stretch of a text that is made.
 enum Stretch {
@@ -240,28 +241,28 @@ fn make(heap: Global, stretches: &[Stretch]) -> Result<Vec<u8>, AllocError> {
     Ok(source)
 }
 
-fn report_each(rt: &HostRuntime, cases: &[(&str, &[Stretch])]) -> io::Result<()> {
+fn report_each<S: Stage>(rt: &HostRuntime, cases: &[(&str, &[Stretch])]) -> io::Result<()> {
     for (name, stretches) in cases {
         let source = make(rt.alloc(), stretches)?;
-        report(rt, name, source.as_slice())?;
+        report::<S>(rt, name, source.as_slice())?;
     }
     Ok(())
 }
 
-pub fn report_made(rt: &HostRuntime) -> io::Result<()> {
-    report_each(rt, &WORDS)?;
-    report_each(rt, &NUMBERS)?;
-    report_each(rt, &BRACES)?;
-    report_each(rt, &TOKENS)?;
-    report_each(rt, &NAMES)
+pub fn report_made<S: Stage>(rt: &HostRuntime) -> io::Result<()> {
+    report_each::<S>(rt, &WORDS)?;
+    report_each::<S>(rt, &NUMBERS)?;
+    report_each::<S>(rt, &BRACES)?;
+    report_each::<S>(rt, &TOKENS)?;
+    report_each::<S>(rt, &NAMES)
 }
 
 // One text for all, since it is long.
-pub fn report_vast(rt: &HostRuntime) -> io::Result<()> {
+pub fn report_vast<S: Stage>(rt: &HostRuntime) -> io::Result<()> {
     let mut source = vec![in rt.alloc(); b' '; SPACES]?;
     for (name, end) in &ENDS {
         source.extend_from_slice(end.as_bytes())?;
-        report(rt, name, source.as_slice())?;
+        report::<S>(rt, name, source.as_slice())?;
         source.truncate(SPACES);
     }
     Ok(())

@@ -1,5 +1,6 @@
 use super::report::report;
 use std::io;
+use tokens::Stage;
 
 static OPERATORS: [&str; 21] = [
     "adds",
@@ -28,17 +29,17 @@ static OPERATORS: [&str; 21] = [
 // What stands before and behind an operator: nothing, a body that is never run, a stroke, a letter more.
 static AROUND: [(&str, &str); 4] = [("", ""), ("{ ", " }"), ("/", ""), ("", "s")];
 
-fn report_around(rt: &HostRuntime, operator: &str) -> io::Result<()> {
+fn report_around<S: Stage>(rt: &HostRuntime, operator: &str) -> io::Result<()> {
     for (before, behind) in &AROUND {
         let source = format!(in rt.alloc(); "{before}{operator}{behind}")?;
-        report(rt, source.as_str(), source.as_bytes())?;
+        report::<S>(rt, source.as_str(), source.as_bytes())?;
     }
     Ok(())
 }
 
-pub fn report_operators(rt: &HostRuntime) -> io::Result<()> {
+pub fn report_operators<S: Stage>(rt: &HostRuntime) -> io::Result<()> {
     for operator in &OPERATORS {
-        report_around(rt, operator)?;
+        report_around::<S>(rt, operator)?;
     }
     Ok(())
 }

@@ -1,6 +1,7 @@
 // Texts stored into words that held sevens: what the words hold then, or why nothing was stored.
 use std::io;
 use text::store_tokens;
+use tokens::Stage;
 
 // A text, and how many words are lent for it.
 struct Lent {
@@ -60,10 +61,10 @@ fn print_words(rt: &HostRuntime, words: &[u64]) -> io::Result<()> {
     println!(rt; "")
 }
 
-fn report_into(rt: &HostRuntime, source: &str, words: &mut [u64]) -> io::Result<()> {
+fn report_into<S: Stage>(rt: &HostRuntime, source: &str, words: &mut [u64]) -> io::Result<()> {
     let lent = words.len();
     print!(rt; "stored in {lent}, {source}:")?;
-    match store_tokens(source.as_bytes(), words) {
+    match store_tokens::<S>(source.as_bytes(), words) {
         Ok(n) => print!(rt; " took {n}:")?,
         Err(refusal) => {
             let number = refusal.number();
@@ -74,10 +75,10 @@ fn report_into(rt: &HostRuntime, source: &str, words: &mut [u64]) -> io::Result<
     print_words(rt, words)
 }
 
-pub fn report_stored(rt: &HostRuntime) -> io::Result<()> {
+pub fn report_stored<S: Stage>(rt: &HostRuntime) -> io::Result<()> {
     for text in &TEXTS {
         let mut words = [7u64; MOST];
-        report_into(rt, text.source, &mut words[0..text.room.min(MOST)])?;
+        report_into::<S>(rt, text.source, &mut words[0..text.room.min(MOST)])?;
     }
     Ok(())
 }

@@ -1,5 +1,6 @@
 use super::report::report;
 use std::io;
+use tokens::Stage;
 
 // Texts that cannot be seen whole on a line, by name.
 static NAMED: [(&str, &str); 22] = [
@@ -130,16 +131,16 @@ static SEEN: [&str; 95] = [
     "{ 1 drops } 100000 swaps repeats",
 ];
 
-fn report_seen(rt: &HostRuntime) -> io::Result<()> {
+fn report_seen<S: Stage>(rt: &HostRuntime) -> io::Result<()> {
     for source in &SEEN {
-        report(rt, source, source.as_bytes())?;
+        report::<S>(rt, source, source.as_bytes())?;
     }
     Ok(())
 }
 
-pub fn report_written(rt: &HostRuntime) -> io::Result<()> {
+pub fn report_written<S: Stage>(rt: &HostRuntime) -> io::Result<()> {
     for (name, source) in &NAMED {
-        report(rt, name, source.as_bytes())?;
+        report::<S>(rt, name, source.as_bytes())?;
     }
-    report_seen(rt)
+    report_seen::<S>(rt)
 }
