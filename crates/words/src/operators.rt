@@ -1,5 +1,5 @@
 ghost use Rattle.std.specs.Prelude.{◌≡◌};
-ghost use Rattle.lexer.specs.Reading.{as_operator, same_word};
+ghost use Rattle.lexer.specs.Reading.{as_operator};
 ghost use Rattle.tokens.specs.Stored.{operator_of};
 ghost use Rattle.words.specs.Spelling.{found_as, spelled};
 
@@ -29,13 +29,6 @@ const OPERATORS: [Operator; 21] = [
     Operator::Back,
     Operator::Shows,
 ];
-
-// Whether two words are the same, letter by letter.
-pub fn same(a: &[u8], b: &[u8]) -> bool
-    ensures { result ≡ same_word a.now b.now }
-{
-    a == b
-}
 
 // How an operator is spelled.
 fn spelling(op: Operator) -> &'static [u8]
@@ -72,6 +65,6 @@ pub fn operator_named(letters: &[u8]) -> Option<Operator>
 {
     OPERATORS
         .iter()
-        .find(|op| same(letters, spelling(**op)))
+        .find(|op| letters == spelling(**op))
         .copied()
 }
