@@ -1,5 +1,5 @@
 -- What a text is answered with, from what its three checks find.
-use Rattle.std.proofs.Common.{◌≡◌, ℕ, Bool, true, false, cond, ltb, List, [], length, Some, None, Ok, Err, Result, sym, refl, ap, ◌∙◌, subst, arith}
+use Rattle.std.proofs.Common.{◌≡◌, ℕ, Bool, true, false, cond, ltb, List, [], length, Ok, Err, Result, sym, refl, ap, ◌∙◌, subst, arith}
 use Rattle.text.specs.declared.refusal.Refusal.{Refusal}
 use Rattle.text.specs.declared.refusal.Refusal.TheVariants.{Unreadable, TooLarge}
 use Rattle.tokens.specs.Token.{Tokens, size}
@@ -45,14 +45,14 @@ judged_by can s r f short e l h =
     let ts = build (from s 0) [] [] [] in
     subst (Checked r) (sym (judged can s)) (subst (λ z. Checked r (judge z (ltb (length s) 16777216) above ts)) (sym e) (subst (λ z. Checked r (judge f z above ts)) (sym l) h))
 
--- whether a test let a value through
-pub left_out : (b : Bool) (n : ℕ) → None ≡ cond b (Some n) None → b ≡ false
-left_out true n e = let z : ◌≡◌ {A = ℕ} 0 1 = cc in absurd (omega arith)
-left_out false n e = refl
+-- whether a test let a text through
+pub left_out : (b : Bool) (e : Refusal) → ◌≡◌ {A = Result (Unit {0}) Refusal} (Err e) (cond b (Ok tt) (Err (TooLarge 0))) → (b ≡ false) × (e ≡ TooLarge 0)
+left_out true r e = let z : ◌≡◌ {A = ℕ} 0 1 = cc in absurd (omega arith)
+left_out false r e = (refl, cc)
 
-pub let_in : (b : Bool) (n m : ℕ) → Some m ≡ cond b (Some n) None → b ≡ true
-let_in true n m e = refl
-let_in false n m e = let z : ◌≡◌ {A = ℕ} 0 1 = cc in absurd (omega arith)
+pub let_in : (b : Bool) → ◌≡◌ {A = Result (Unit {0}) Refusal} (Ok tt) (cond b (Ok tt) (Err (TooLarge 0))) → b ≡ true
+let_in true e = refl
+let_in false e = let z : ◌≡◌ {A = ℕ} 0 1 = cc in absurd (omega arith)
 
 -- a text that was accepted passed every check, and its tokens are as many as its pieces
 pub record Accepted (can : ℕ → Bool) (s : List ℕ) (n : ℕ) : Type 0 where

@@ -1,4 +1,4 @@
-ghost use Rattle.std.specs.Prelude.{◌≡◌, ◌+◌, ◌<◌, ◌≤◌, [], length, if◌then◌else◌, Some, None, MatchOption, nat_lt};
+ghost use Rattle.std.specs.Prelude.{◌≡◌, ◌+◌, ◌<◌, ◌≤◌, [], length, if◌then◌else◌, Ok, Err, MatchOption, nat_lt};
 ghost use Rattle.text.specs.declared.refusal.Refusal.TheVariants.{Unreadable, TooLarge};
 ghost use Rattle.lexer.specs.Reading.{cannot_read, above_limit, fine, read};
 ghost use Rattle.lexer.specs.Lexing.{from};
@@ -9,7 +9,7 @@ use super::refusal::Refusal;
 use lexer::{Lexeme, lexeme_at};
 use tokens::Stage;
 use words::meaning::plain_token;
-use words::names::NAMES;
+use words::names::Names;
 
 // How many tokens a text may have, braces counted.
 pub const TOKENS: usize = 65536;
@@ -50,12 +50,11 @@ fn readable(source: &[u8]) -> Result<(), Refusal>
     Ok(())
 }
 
-// How far a pass over a text has come: tokens, open braces, names.
+// How far a pass over a text has come: tokens, open braces.
 #[derive(Clone, Copy)]
 struct Counts {
     tokens: usize,
     depth: usize,
-    known: usize,
 }
 
 // A count with one more, where that is still within its limit.
@@ -81,65 +80,38 @@ fn place(lexeme: Lexeme) -> Option<usize>
 }
 
 // The counts with one lexeme more; none where it is above a limit.
-fn admit<'a, S: Stage>(
-    lexeme: Lexeme<'a>,
-    counts: Counts,
-    names: &mut [&'a [u8]],
-) -> Option<Counts>
-    requires { (length names.old ≡ 256) × (counts.known ≤ 256) }
+fn admit<'a, S: Stage>(lexeme: Lexeme<'a>, counts: Counts, names: &mut Names<'a>) -> Option<Counts>
     ensures { Admits S.can result lexeme.entry counts names.old names.new }
 {
-    let Counts {
-        tokens,
-        depth,
-        known,
-    } = counts;
-    let tokens = one_more(tokens, TOKENS)?;
-    match lexeme {
-        Lexeme::Open { .. } => {
-            let depth = one_more(depth, DEPTH)?;
-            Some(Counts {
-                tokens,
-                depth,
-                known,
-            })
-        }
-        Lexeme::Close { .. } => Some(Counts {
-            tokens,
-            depth: depth.saturating_sub(1),
-            known,
-        }),
+    let tokens = one_more(counts.tokens, TOKENS)?;
+    let depth = match lexeme {
+        Lexeme::Open { .. } => one_more(counts.depth, DEPTH)?,
+        Lexeme::Close { .. } => counts.depth.saturating_sub(1),
         _ => {
-            let (_, known) = plain_token::<S>(lexeme, names, known)?;
-            Some(Counts {
-                tokens,
-                depth,
-                known,
-            })
+            plain_token::<S>(lexeme, names)?;
+            counts.depth
         }
-    }
+    };
+    Some(Counts { tokens, depth })
 }
 
 // How many tokens a text that can be read has, braces counted, or the first that is above a limit.
-fn within_limits<'a, S: Stage>(
-    source: &'a [u8],
-    names: &mut [&'a [u8]],
-) -> Result<usize, Refusal>
-    requires { (length names.old ≡ 256) × (cannot_read (from source.now 0) (length source.now) 0 ≡ fine) }
+fn within_limits<S: Stage>(source: &[u8]) -> Result<usize, Refusal>
+    requires { cannot_read (from source.now 0) (length source.now) 0 ≡ fine }
     ensures { result ≡ passed_with TooLarge (length (from source.now 0)) (above_limit (from source.now 0) S.can 0 0 []) }
 {
     let mut at = 0;
+    let mut names = Names::new();
     let mut counts = Counts {
         tokens: 0,
         depth: 0,
-        known: 0,
     };
     loop {
         let (lexeme, next) = lexeme_at(source, at);
         let Some(place) = place(lexeme) else {
             return Ok(counts.tokens);
         };
-        let Some(more) = admit::<S>(lexeme, counts, names) else {
+        let Some(more) = admit::<S>(lexeme, counts, &mut names) else {
             return Err(Refusal::TooLarge { place });
         };
         counts = more;
@@ -147,14 +119,14 @@ fn within_limits<'a, S: Stage>(
     }
 }
 
-// The length of a text that is short enough to be looked at further.
-fn short(source: &[u8]) -> Option<usize>
-    ensures { result ≡ (if nat_lt (length source.now) 16777216 then Some (length source.now) else None) }
+// Whether a text is short enough to be looked at further.
+fn short(source: &[u8]) -> Result<(), Refusal>
+    ensures { result ≡ (if nat_lt (length source.now) 16777216 then Ok tt else Err (TooLarge 0)) }
 {
     if source.len() < BYTES {
-        Some(source.len())
+        Ok(())
     } else {
-        None
+        Err(Refusal::TooLarge { place: 0 })
     }
 }
 
@@ -163,9 +135,6 @@ pub fn count_tokens<S: Stage>(source: &[u8]) -> Result<usize, Refusal>
     ensures { Checked result (read S.can source.now) }
 {
     readable(source)?;
-    let Some(_) = short(source) else {
-        return Err(Refusal::TooLarge { place: 0 });
-    };
-    let mut names = [&source[0..0]; NAMES];
-    within_limits::<S>(source, &mut names)
+    short(source)?;
+    within_limits::<S>(source)
 }

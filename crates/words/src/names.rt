@@ -7,6 +7,7 @@ use arrayvec::ArrayVec;
 pub const NAMES: usize = 256;
 
 // The names that a text has used so far, numbered as they came; each is a part of the text.
+#[derive(Drop)]
 pub struct Names<'a> {
     words: ArrayVec<&'a [u8], NAMES>,
 }

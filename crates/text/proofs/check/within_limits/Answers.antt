@@ -13,8 +13,8 @@ returns-in_default g c =
     let s = c.args.source.now in
     let inv = c.loop-place.invariant in
     let none = at_the_end s c.loop-place.at c.lexeme_at-next.result.1 c.lexeme_at-next.result.0 c.lexeme_at-next.ensures (sym c.in_default.ensures) in
-    let counted : c.loop-place.counts.tokens ≡ length (from s 0) = omega (arith, inv.3, ap length none) in
-    ap Ok counted ∙ ap (passed_with TooLarge (length (from s 0))) (sym (ap (λ z. limits g.S.Stage.can z c.loop-place.counts c.loop-place.names) none) ∙ inv.4)
+    let counted : c.loop-place.counts.tokens ≡ length (from s 0) = omega (arith, inv.2, ap length none) in
+    ap Ok counted ∙ ap (passed_with TooLarge (length (from s 0))) (sym (ap (λ z. limits g.S.Stage.can z c.loop-place.counts c.loop-place.names) none) ∙ inv.3)
 
 pub returns-in_default-admit : goal.returns-in_default-admit
 returns-in_default-admit g c =
@@ -24,9 +24,9 @@ returns-in_default-admit g c =
     let j = c.lexeme_at-next.result.1 in
     let p = c.in-Some.place in
     let place = sym c.in-Some.ensures in
-    let next = next_piece s i j (length s) inv.2.0 p c.lexeme_at-next.result.0 c.lexeme_at-next.ensures place inv.2.1 in
+    let next = next_piece s i j (length s) inv.1.0 p c.lexeme_at-next.result.0 c.lexeme_at-next.ensures place inv.1.1 in
     let above = c.in_default-admit.ensures next.piece p (from s j) next.stands place in
-    ap (passed_with TooLarge (length (from s 0))) (sym above ∙ sym (ap (λ z. limits g.S.Stage.can z c.loop-place.counts c.loop-place.names) next.is) ∙ inv.4)
+    ap (passed_with TooLarge (length (from s 0))) (sym above ∙ sym (ap (λ z. limits g.S.Stage.can z c.loop-place.counts c.loop-place.names) next.is) ∙ inv.3)
 
 pub loop-place-preserved : goal.loop-place-preserved
 loop-place-preserved g c =
@@ -34,18 +34,17 @@ loop-place-preserved g c =
     let inv = c.loop-place.invariant in
     let i = c.loop-place.at in
     let j = c.lexeme_at-next.result.1 in
-    let next = next_piece s i j (length s) inv.2.0 c.in-Some.place c.lexeme_at-next.result.0 c.lexeme_at-next.ensures (sym c.in-Some.ensures) inv.2.1 in
+    let next = next_piece s i j (length s) inv.1.0 c.in-Some.place c.lexeme_at-next.result.0 c.lexeme_at-next.ensures (sym c.in-Some.ensures) inv.1.1 in
     let admitted = c.in-Some-admit.ensures next.piece (from s j) next.stands in (
       next.within,
-      admitted.0,
       (next.left, next.readable),
-      omega (arith, admitted.1, inv.3, ap length next.is),
-      sym admitted.2 ∙ sym (ap (λ z. limits g.S.Stage.can z c.loop-place.counts c.loop-place.names) next.is) ∙ inv.4,
+      omega (arith, admitted.0, inv.2, ap length next.is),
+      sym admitted.1 ∙ sym (ap (λ z. limits g.S.Stage.can z c.loop-place.counts c.loop-place.names) next.is) ∙ inv.3,
     )
 
 pub loop-place-smaller : goal.loop-place-smaller
 loop-place-smaller g c =
     let s = c.args.source.now in
     let inv = c.loop-place.invariant in
-    let next = next_piece s c.loop-place.at c.lexeme_at-next.result.1 (length s) inv.2.0 c.in-Some.place c.lexeme_at-next.result.0 c.lexeme_at-next.ensures (sym c.in-Some.ensures) inv.2.1 in
+    let next = next_piece s c.loop-place.at c.lexeme_at-next.result.1 (length s) inv.1.0 c.in-Some.place c.lexeme_at-next.result.0 c.lexeme_at-next.ensures (sym c.in-Some.ensures) inv.1.1 in
     omega (arith, next.on, next.within)

@@ -1,4 +1,4 @@
-use Rattle.std.proofs.Common.{Ok, sym, refl, subst, arith}
+use Rattle.std.proofs.Common.{Ok, sym, subst, arith}
 use Rattle.text.specs.Storing.{StoredAs}
 use Rattle.text.proofs.Judging.{accepted}
 use Rattle.text.proofs.store.store_tokens.Goals as goal
@@ -6,7 +6,7 @@ use Rattle.text.proofs.store.store_tokens.Goals as goal
 pub store_all-requires : goal.store_all-requires
 store_all-requires g c =
     let ok = accepted g.S.Stage.can c.args.source.now c.in_ok-count.count c.in_ok-count.ensures in
-    record { names = refl; ready = record { readable = ok.readable; count = 0; within = ok.within; enough = omega (arith, ok.many) } }
+    record { readable = ok.readable; count = 0; within = ok.within; enough = omega (arith, ok.many) }
 
 pub returns : goal.returns
 returns g c =
