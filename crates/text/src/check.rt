@@ -33,20 +33,17 @@ fn readable(source: &[u8]) -> Result<(), Refusal>
             Lexeme::Wrong { place } => return Err(Refusal::Unreadable { place }),
             Lexeme::Open { .. } => open += 1,
             Lexeme::Close { place } => {
-                let Some(left) = open.checked_sub(1) else {
-                    return Err(Refusal::Unreadable { place });
-                };
-                open = left;
+                open = open.checked_sub(1).ok_or(Refusal::Unreadable { place })?;
             }
             Lexeme::Number { .. } | Lexeme::Word { .. } | Lexeme::Quoted { .. } => {}
         }
         at = next;
     }
-    let 0 = open else {
+    if open != 0 {
         return Err(Refusal::Unreadable {
             place: source.len(),
         });
-    };
+    }
     Ok(())
 }
 
@@ -70,12 +67,12 @@ fn place(lexeme: Lexeme) -> Option<usize>
 {
     match lexeme {
         Lexeme::End => None,
-        Lexeme::Open { place } => Some(place),
-        Lexeme::Close { place } => Some(place),
-        Lexeme::Number { place, .. } => Some(place),
-        Lexeme::Word { place, .. } => Some(place),
-        Lexeme::Quoted { place, .. } => Some(place),
-        Lexeme::Wrong { place } => Some(place),
+        Lexeme::Open { place }
+        | Lexeme::Close { place }
+        | Lexeme::Number { place, .. }
+        | Lexeme::Word { place, .. }
+        | Lexeme::Quoted { place, .. }
+        | Lexeme::Wrong { place } => Some(place),
     }
 }
 
@@ -111,10 +108,7 @@ fn within_limits<S: Stage>(source: &[u8]) -> Result<usize, Refusal>
         let Some(place) = place(lexeme) else {
             return Ok(counts.tokens);
         };
-        let Some(more) = admit::<S>(lexeme, counts, &mut names) else {
-            return Err(Refusal::TooLarge { place });
-        };
-        counts = more;
+        counts = admit::<S>(lexeme, counts, &mut names).ok_or(Refusal::TooLarge { place })?;
         at = next;
     }
 }
