@@ -121,11 +121,7 @@ fn job(rt: &HostRuntime, file: &str) -> io::Result<Vec<u8>> {
 fn print_answer(rt: &HostRuntime, source: &[u8]) -> io::Result<()> {
     match count_tokens::<Thin>(source) {
         Ok(n) => println!(rt; "tokens {n}"),
-        Err(refusal) => {
-            let number = refusal.number();
-            let place = refusal.place();
-            println!(rt; "refused {number} at {place}")
-        }
+        Err(refusal) => println!(rt; "{refusal}"),
     }
 }
 

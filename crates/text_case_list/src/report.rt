@@ -6,10 +6,6 @@ use tokens::Stage;
 pub fn report<S: Stage>(rt: &HostRuntime, name: &str, source: &[u8]) -> io::Result<()> {
     match count_tokens::<S>(source) {
         Ok(n) => println!(rt; "{name}: tokens {n}"),
-        Err(refusal) => {
-            let number = refusal.number();
-            let place = refusal.place();
-            println!(rt; "{name}: refused {number} at {place}")
-        }
+        Err(refusal) => println!(rt; "{name}: {refusal}"),
     }
 }

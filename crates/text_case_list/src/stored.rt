@@ -66,11 +66,7 @@ fn report_into<S: Stage>(rt: &HostRuntime, source: &str, words: &mut [u64]) -> i
     print!(rt; "stored in {lent}, {source}:")?;
     match store_tokens::<S>(source.as_bytes(), words) {
         Ok(n) => print!(rt; " took {n}:")?,
-        Err(refusal) => {
-            let number = refusal.number();
-            let place = refusal.place();
-            print!(rt; " refused {number} at {place}:")?;
-        }
+        Err(refusal) => print!(rt; " {refusal}:")?,
     }
     print_words(rt, words)
 }

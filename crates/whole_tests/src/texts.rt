@@ -86,7 +86,7 @@ pub fn report_run(rt: &HostRuntime, name: &str, source: &[u8], steps: u32) -> an
     match store_tokens::<Whole>(source, &mut words) {
         Ok(n) => print_run(rt, &words[0..n.min(words.len())], steps),
         Err(refusal) => {
-            println!(rt; "refused {} at {}", refusal.number(), refusal.place())?;
+            println!(rt; "{refusal}")?;
             Ok(())
         }
     }
