@@ -12,7 +12,7 @@ returns-in-Ok c =
     let r = c.in-Ok.end in
     let run = c.in-Ok.ensures.0 in
     let w = take (r - (p + 1)) (drop (p + 1) s) in
-    let inside : r ≤ length s = run.within (omega arith) in (
+    let inside : r ≤ length s = run.within in (
       omega arith,
       inside,
       letters_are s p (p + 1) r (a_quoted p w) (slashed p w) refl run.bound inside (quoted_finished s p r (omega arith) inside) (quoted_run s p r c.requires.0 c.requires.1 run.bound run.places) run.stops c.in-Ok.ensures.1 c.in-Ok.ensures.2,
@@ -35,7 +35,7 @@ returns-in-Err c =
     let r = c.in-Err.ensures.0 in
     let run = c.in-Err.ensures.1 in
     let w = take (r - (p + 1)) (drop (p + 1) s) in
-    let inside : r ≤ length s = run.within (omega arith) in
+    let inside : r ≤ length s = run.within in
     let whole = quoted_run s p r c.requires.0 c.requires.1 run.bound run.places in
     elim c.in-Err.ensures.2 [
       | inl e ↦ (refl, λ len left. letters_long s p (p + 1) r (a_quoted p w) (slashed p w) refl run.bound inside (quoted_finished s p r (omega arith) inside) whole run.stops e.0 len left ∙ ap at (sym e.1))

@@ -1,4 +1,4 @@
-use Rattle.std.proofs.Common.{◌-◌, take, drop, refl, sym, ap, ◌∙◌, inl, inr, arith}
+use Rattle.std.proofs.Common.{◌-◌, take, drop, refl, sym, ap, ◌∙◌, inl, inr}
 use Rattle.lexer.specs.Reading.{a_word, word, is_letter, goes_on, finished, is_between, cannot_read, at}
 use Rattle.lexer.proofs.Lexemes.{passed, word_run, letters_are, letters_long, letters_stuck}
 use Rattle.lexer.proofs.word_at.Goals as goal
@@ -11,7 +11,7 @@ returns-in-Ok c =
     let r = c.in-Ok.end in
     let run = c.in-Ok.ensures.0 in
     let w = take (r - p) (drop p s) in
-    let inside = run.within (omega arith) in (
+    let inside = run.within in (
       passed s is_letter p r run.bound c.requires.0 c.requires.1 run.stops,
       inside,
       letters_are s p p r (a_word p w) (word p w) refl run.bound inside refl (word_run s p r c.requires.0 c.requires.1 run.bound run.places) run.stops c.in-Ok.ensures.1 c.in-Ok.ensures.2,
@@ -25,7 +25,7 @@ returns-in-Err c =
     let r = c.in-Err.ensures.0 in
     let run = c.in-Err.ensures.1 in
     let w = take (r - p) (drop p s) in
-    let inside = run.within (omega arith) in
+    let inside = run.within in
     let whole = word_run s p r c.requires.0 c.requires.1 run.bound run.places in
     elim c.in-Err.ensures.2 [
       | inl e ↦ (refl, λ len left. letters_long s p p r (a_word p w) (word p w) refl run.bound inside refl whole run.stops e.0 len left ∙ ap at (sym e.1))
