@@ -1,10 +1,12 @@
 -- Whole lexemes: from where one begins to where it ends.
 use Rattle.std.proofs.Common.{◌≡◌, ℕ, zero, suc, ◌+◌, ◌-◌, ◌*◌, ◌<◌, ◌≤◌, Bool, true, false, cond, eqb, leb, List, [], ◌∷◌, ◌++◌, length, get_or, take, drop, sym, refl, ap, ◌∙◌, subst, inl, inr, add-zero, add-one, arith, length-drop, length-take, drop-cons}
-use Rattle.std.proofs.lemmas.List.{append-nil, append_assoc}
+use Rattle.std.specs.List.{prefix_len}
+use Rattle.std.proofs.lemmas.List.{append-nil, append_assoc, get_or-drop}
+use Rattle.std.proofs.lemmas.List.Sums.{prefix_len-le-length, prefix_len_passes, prefix_len_stops}
 use Rattle.std.proofs.lemmas.Bool.{cases_Bool}
 use Rattle.std.proofs.lemmas.Bool.Decides.{nat_tests, eqb_tells}
 use Rattle.lexer.specs.Reading.{Piece, slashed, wrong, Within, between, a_number, a_word, a_quoted, is_space, is_digit, is_letter, is_brace, may_begin, braces, begun, finished, goes_on, with_byte, is_between, pieces, cannot_read, at}
-use Rattle.lexer.specs.Lexing.{from, ends_at}
+use Rattle.lexer.specs.Lexing.{from, ends_at, Run}
 use Rattle.lexer.proofs.Scanning.{goes, begins, past_brace, past_wrong, number_goes, ended, broken}
 
 -- a scan that stops where a test fails has passed a byte where it holds
@@ -49,6 +51,23 @@ module _ (s : List ℕ) (k : List ℕ → Within) (go : (w : List ℕ) (b : ℕ)
   letters_to i r l h =
       let e : i + (r - i) ≡ r = omega arith in
       letters_go (r - i) i [] (λ j a b. h j a (omega arith)) ∙ ap (λ z. pieces (drop z s) z (k (take (r - i) (drop i s)))) e
+
+-- the letters at the front of what is left are a run
+pub run_of : (s : List ℕ) (i : ℕ) → i ≤ length s → Run s i (i + prefix_len is_letter (drop i s))
+run_of s i h =
+    let d = drop i s in
+    let n = prefix_len is_letter d in
+    let fits = prefix_len-le-length is_letter d in
+    let len = length-drop i s in
+    record {
+      bound = omega arith;
+      within = omega (arith, fits, len);
+      places = λ k l m.
+          let j : k - i < n = omega arith in
+          let e : i + (k - i) ≡ k = omega arith in
+          (omega (arith, fits, len), ap is_letter (sym (ap (λ z. get_or s z 0) e) ∙ sym (get_or-drop i s (k - i) 0)) ∙ prefix_len_passes is_letter d (k - i) 0 j);
+      stops = λ l. ap is_letter (sym (get_or-drop i s n 0)) ∙ prefix_len_stops is_letter d 0 (omega (arith, fits, len));
+    }
 
 -- the letters of a run within the text are as many as it is long
 pub run_length : (s : List ℕ) (i r : ℕ) → i ≤ r → r ≤ length s → length (take (r - i) (drop i s)) ≡ r - i

@@ -1,10 +1,12 @@
 -- The pieces of a text, one byte at a time, and where a piece ends.
-use Rattle.std.proofs.Common.{◌≡◌, ℕ, ◌+◌, ◌-◌, ◌*◌, ◌<◌, ◌≤◌, min, true, false, not, ◌&&◌, eqb, List, ◌∷◌, ◌++◌, length, get_or, drop, sym, refl, ap, ◌∙◌, inl, inr, add-one, arith, drop-cons}
-use Rattle.std.proofs.lemmas.List.{drop_all, append-nil}
+use Rattle.std.proofs.Common.{◌≡◌, ℕ, zero, suc, ◌+◌, ◌-◌, ◌*◌, ◌<◌, ◌≤◌, min, true, false, not, ◌&&◌, eqb, ltb, List, ◌∷◌, ◌++◌, length, get_or, drop, sym, refl, ap, ◌∙◌, inl, inr, add-zero, add-one, length-drop, arith, drop-cons}
+use Rattle.std.specs.List.{prefix_len}
+use Rattle.std.proofs.lemmas.List.{drop_all, append-nil, get_or-drop}
+use Rattle.std.proofs.lemmas.List.Sums.{prefix_len-le-length, prefix_len_passes, prefix_len_stops}
 use Rattle.std.proofs.lemmas.Bool.{cases_Bool}
 use Rattle.std.proofs.lemmas.Bool.Decides.{nat_tests, leb_tells}
 use Rattle.lexer.specs.Reading.{wrong, Within, between, a_number, a_remark, is_space, is_digit, is_letter, is_brace, may_begin, braces, begun, finished, goes_on, with_byte, is_between, pieces}
-use Rattle.lexer.specs.Lexing.{from, ends_at}
+use Rattle.lexer.specs.Lexing.{from, in_line, ends_at}
 
 -- a byte that goes on with what has begun
 pub goes : (s : List ℕ) (i : ℕ) (w : Within) → i < length s → goes_on w (get_or s i 0) ≡ true → pieces (drop i s) i w ≡ pieces (drop (i + 1) s) (i + 1) (with_byte w (get_or s i 0))
@@ -47,6 +49,35 @@ remark_ends s i h n =
 pub remark_over : (s : List ℕ) (i : ℕ) → length s ≤ i → pieces (drop i s) i a_remark ≡ from s i
 unfolding finished
 remark_over s i h = at_end s i a_remark h ∙ sym (at_end s i between h)
+
+-- the bytes of a line that are still a remark's, and the end behind them
+remark_run : (s : List ℕ) (i n : ℕ) → i + n ≤ length s → ((k : ℕ) → k < n → in_line (get_or (drop i s) k 0) ≡ true) → pieces (drop i s) i a_remark ≡ pieces (drop (i + n) s) (i + n) a_remark
+remark_run s i zero h f = rw add-zero refl
+remark_run s i (suc n) h f =
+    let first : i ≡ i + 0 = omega arith in
+    let same : (i + 1) + n ≡ i + suc n = omega arith in
+    let t : in_line (get_or s i 0) ≡ true = ap in_line (ap (λ z. get_or s z 0) first ∙ sym (get_or-drop i s 0 0)) ∙ f 0 (omega arith) in
+    let here : eqb (get_or s i 0) 10 ≡ false = grind (arith, nat_tests) in
+    let others : (k : ℕ) → k < n → in_line (get_or (drop (i + 1) s) k 0) ≡ true =
+    λ k l.
+    let next : (i + 1) + k ≡ i + suc k = omega arith in
+    ap in_line (get_or-drop (i + 1) s k 0 ∙ ap (λ z. get_or s z 0) next ∙ sym (get_or-drop i s (suc k) 0)) ∙ f (suc k) (omega arith) in
+    remark_goes s i (omega arith) here ∙ remark_run s (i + 1) n (omega arith) others ∙ ap (λ z. pieces (drop z s) z a_remark) same
+
+pub remark_skipped : (s : List ℕ) (i : ℕ) → i ≤ length s → pieces (drop i s) i a_remark ≡ from s (i + prefix_len in_line (drop i s))
+remark_skipped s i h =
+    let d = drop i s in
+    let n = prefix_len in_line d in
+    let fits = prefix_len-le-length in_line d in
+    let len = length-drop i s in
+    remark_run s i n (omega (arith, fits, len)) (λ k l. prefix_len_passes in_line d k 0 l)
+    ∙ elim (cases_Bool (ltb (i + n) (length s))) [
+      | inl t ↦
+          let inside : i + n < length s = grind (arith, nat_tests) in
+          let ends : in_line (get_or s (i + n) 0) ≡ false = ap in_line (sym (get_or-drop i s n 0)) ∙ prefix_len_stops in_line d 0 (omega (arith, fits, len)) in
+          remark_ends s (i + n) inside (grind (arith, nat_tests))
+      | inr t ↦ remark_over s (i + n) (grind (arith, nat_tests))
+    ]
 
 pub skip_space : (s : List ℕ) (i : ℕ) → i < length s → is_space (get_or s i 0) ≡ true → from s i ≡ from s (i + 1)
 unfolding goes_on finished

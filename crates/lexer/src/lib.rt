@@ -11,13 +11,14 @@
 #![tactic(auto)]
 
 ghost use Rattle.std.specs.Prelude.{◌≡◌, ℕ, ◌+◌, ◌-◌, ◌*◌, ◌<◌, ◌≤◌, min, true, false, List, ◌++◌, length, drop, ◌==◌, slice_index};
+ghost use Rattle.std.specs.List.{prefix_len};
 ghost use Rattle.lexer.specs.Reading.{is_space, is_digit, is_letter, is_brace, pieces, between, a_number, a_word, a_quoted, a_remark};
-ghost use Rattle.lexer.specs.Lexing.{from, ends_at, Saw};
+ghost use Rattle.lexer.specs.Lexing.{from, in_line, ends_at, Run, WordEnd, Saw};
 
 pub mod laws;
 
 // A piece of a text, with the byte at which it begins; `Wrong` says which byte cannot stand where it stands.
-#[derive(Clone, Copy)]
+#[derive(Clone, Copy, Debug, PartialEq, Eq)]
 pub enum Lexeme<'a> {
     End,
     Open { place: usize },
@@ -37,37 +38,41 @@ pub const LETTERS: usize = 31;
 fn space(b: u8) -> bool
     ensures { result ≡ is_space b }
 {
-    b == b' ' || b == b'\n'
+    matches!(b, b' ' | b'\n')
 }
 
 fn digit(b: u8) -> bool
     ensures { result ≡ is_digit b }
 {
-    b'0' <= b && b <= b'9'
+    b.is_ascii_digit()
 }
 
 fn letter(b: u8) -> bool
     ensures { result ≡ is_letter b }
 {
-    (b'a' <= b && b <= b'z') || b == b'-'
+    b.is_ascii_lowercase() || b == b'-'
 }
 
 fn brace(b: u8) -> bool
     ensures { result ≡ is_brace b }
 {
-    b == b'{' || b == b'}'
+    matches!(b, b'{' | b'}')
+}
+
+// How many bytes stand in front of the end of a line.
+fn line_length(bytes: &[u8]) -> usize
+    ensures { result ≡ prefix_len in_line bytes.now }
+{
+    bytes.iter().take_while(|b| **b != b'\n').count()
 }
 
 // The end of the line that a remark stands in, or of the text.
 fn skip_remark(source: &[u8], at: usize) -> usize
+    requires { at ≤ length source.now }
     ensures rest { pieces (drop at source.now) at a_remark ≡ from source.now result }
     ensures bound { at ≤ result }
 {
-    let mut i = at;
-    while i < source.len() && source[i] != b'\n' {
-        i += 1;
-    }
-    i
+    at + line_length(&source[at..])
 }
 
 // Past spaces, ends of lines and remarks.
@@ -76,6 +81,7 @@ fn skip_blanks(source: &[u8], at: usize) -> usize
     ensures bound { at ≤ result }
     ensures stops { result < length source.now → (is_space (slice_index source.now result) ≡ false) × ((slice_index source.now result == 37) ≡ false) }
 {
+    // no chain: a remark is passed in one step, by its length
     let mut i = at;
     while i < source.len() {
         let b = source[i];
@@ -106,6 +112,7 @@ fn scan_digits(source: &[u8], at: usize) -> (u32, usize)
     ensures within { at ≤ length source.now → result.1 ≤ length source.now }
     ensures stops { result.1 < length source.now → is_digit (slice_index source.now result.1) ≡ false }
 {
+    // no chain: one walk gives both what the digits come to and where they end
     let mut i = at;
     let mut value = 0;
     while i < source.len() && digit(source[i]) {
@@ -115,18 +122,19 @@ fn scan_digits(source: &[u8], at: usize) -> (u32, usize)
     (value, i)
 }
 
+// How many letters stand in front of anything else.
+fn letters_before(bytes: &[u8]) -> usize
+    ensures { result ≡ prefix_len is_letter bytes.now }
+{
+    bytes.iter().take_while(|b| letter(**b)).count()
+}
+
 // Where the letters from a byte on end.
 fn letters_end(source: &[u8], at: usize) -> usize
-    ensures bound { at ≤ result }
-    ensures within { at ≤ length source.now → result ≤ length source.now }
-    ensures places { (k : ℕ) → at ≤ k → k < result → (k < length source.now) × (is_letter (slice_index source.now k) ≡ true) }
-    ensures stops { result < length source.now → is_letter (slice_index source.now result) ≡ false }
+    requires { at ≤ length source.now }
+    ensures { Run source.now at result }
 {
-    let mut i = at;
-    while i < source.len() && letter(source[i]) {
-        i += 1;
-    }
-    i
+    at + letters_before(&source[at..])
 }
 
 // Whether a number or a word may end before this byte: at a space, an end of line, a brace or the end of the text.
@@ -148,25 +156,33 @@ fn number_at<'a>(source: &'a [u8], place: usize) -> (Lexeme<'a>, usize)
     }
 }
 
+// Where a word ends whose letters begin at a byte; or the byte that is wrong, the first letter too many or what no word ends at.
+fn word_end(source: &[u8], start: usize) -> Result<usize, usize>
+    requires { start ≤ length source.now }
+    ensures { WordEnd source.now start result }
+{
+    let end = letters_end(source, start);
+    if end - start > LETTERS {
+        return Err(start + LETTERS);
+    }
+    if may_end(source, end) {
+        Ok(end)
+    } else {
+        Err(end)
+    }
+}
+
 fn word_at<'a>(source: &'a [u8], place: usize) -> (Lexeme<'a>, usize)
     requires { (place < length source.now) × (is_letter (slice_index source.now place) ≡ true) }
     ensures { Saw source.now place result.0 result.1 }
 {
-    let end = letters_end(source, place);
-    if end - place > LETTERS {
-        let last = place + LETTERS;
-        return (Lexeme::Wrong { place: last }, last);
+    match word_end(source, place) {
+        Ok(end) => {
+            let letters = &source[place..end];
+            (Lexeme::Word { place, letters }, end)
+        }
+        Err(wrong) => (Lexeme::Wrong { place: wrong }, wrong),
     }
-    if !may_end(source, end) {
-        return (Lexeme::Wrong { place: end }, end);
-    }
-    (
-        Lexeme::Word {
-            place,
-            letters: &source[place..end],
-        },
-        end,
-    )
 }
 
 fn quoted_at<'a>(source: &'a [u8], place: usize) -> (Lexeme<'a>, usize)
@@ -174,24 +190,15 @@ fn quoted_at<'a>(source: &'a [u8], place: usize) -> (Lexeme<'a>, usize)
     ensures { Saw source.now place result.0 result.1 }
 {
     let start = place + 1;
-    let end = letters_end(source, start);
-    if end == start {
-        return (Lexeme::Wrong { place: end }, end);
+    match word_end(source, start) {
+        Ok(end) if end > start => {
+            let letters = &source[start..end];
+            (Lexeme::Quoted { place, letters }, end)
+        }
+        // a stroke with no letter behind it
+        Ok(end) => (Lexeme::Wrong { place: end }, end),
+        Err(wrong) => (Lexeme::Wrong { place: wrong }, wrong),
     }
-    if end - start > LETTERS {
-        let last = start + LETTERS;
-        return (Lexeme::Wrong { place: last }, last);
-    }
-    if !may_end(source, end) {
-        return (Lexeme::Wrong { place: end }, end);
-    }
-    (
-        Lexeme::Quoted {
-            place,
-            letters: &source[start..end],
-        },
-        end,
-    )
 }
 
 // The lexeme at or after a byte, and the byte behind it.

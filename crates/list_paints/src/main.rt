@@ -7,7 +7,7 @@ use std::alloc::{AllocError, Global};
 use std::io::{Read, Write};
 use std::process::ExitCode;
 use std::{env, fs, io};
-use whole_text::refusal::Refusal;
+use text::refusal::Refusal;
 
 const USAGE: &str = "list_paints [--steps N] FILE
 
@@ -114,32 +114,38 @@ fn job(rt: &HostRuntime, file: &str) -> io::Result<Vec<u8>> {
     fs::read(rt, file)
 }
 
-// The whole listing: a first run says how long it is, and a second writes it.
-fn listing(
-    heap: Global,
-    source: &[u8],
-    steps: u64,
-) -> Result<Result<Vec<u8>, Refusal>, AllocError> {
-    let mut words = vec![in heap; 0u64; WORDS]?;
-    let mut bytes = vec![in heap; 0u8; 0]?;
-    match list_paints(source, steps, words.as_mut_slice(), bytes.as_mut_slice()) {
-        Ok(length) => bytes = vec![in heap; 0u8; length as usize]?,
-        Err(refusal) => return Ok(Err(refusal)),
-    }
-    match list_paints(source, steps, words.as_mut_slice(), bytes.as_mut_slice()) {
-        Ok(_) => Ok(Ok(bytes)),
-        Err(refusal) => Ok(Err(refusal)),
+// Why a job is not listed.
+enum Unlisted {
+    Refused(Refusal),
+    NoMemory,
+}
+
+impl From<Refusal> for Unlisted {
+    fn from(refusal: Refusal) -> Unlisted {
+        Unlisted::Refused(refusal)
     }
 }
 
+impl From<AllocError> for Unlisted {
+    fn from(_e: AllocError) -> Unlisted {
+        Unlisted::NoMemory
+    }
+}
+
+// The whole listing: a first run says how long it is, and a second writes it.
+fn listing(heap: Global, source: &[u8], steps: u64) -> Result<Vec<u8>, Unlisted> {
+    let mut words = vec![in heap; 0u64; WORDS]?;
+    let length = list_paints(source, steps, words.as_mut_slice(), &mut [])?;
+    let mut bytes = vec![in heap; 0u8; length as usize]?;
+    list_paints(source, steps, words.as_mut_slice(), bytes.as_mut_slice())?;
+    Ok(bytes)
+}
+
 fn print_listing(rt: &HostRuntime, source: &[u8], steps: u64) -> Result<(), Failure> {
-    match listing(rt.alloc(), source, steps)? {
+    match listing(rt.alloc(), source, steps) {
         Ok(bytes) => rt.stdout().write_all(bytes.as_slice())?,
-        Err(refusal) => {
-            let number = refusal.number();
-            let place = refusal.place();
-            println!(rt; "refused {number} at {place}")?;
-        }
+        Err(Unlisted::Refused(refusal)) => println!(rt; "{refusal}")?,
+        Err(Unlisted::NoMemory) => return Err(Failure::NoMemory),
     }
     Ok(())
 }

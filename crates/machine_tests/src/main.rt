@@ -7,7 +7,6 @@ use machine::outside::number_of_fault;
 use run::drive::{Ending, Sink};
 use run::job::run_job;
 use std::alloc::{AllocError, Global};
-use tokens::number;
 
 const N: u64 = 0;
 
@@ -85,7 +84,7 @@ fn report(rt: &HostRuntime, name: &str, tokens: &[u64], steps: u32) -> anyhow::R
     match ending {
         Ending::Finished => println!(rt; "ending 0")?,
         Ending::Failed(fault) => println!(rt; "ending {}", number_of_fault(fault))?,
-        Ending::Unsupported(op) => println!(rt; "operator {}", number(op))?,
+        Ending::Unsupported(op) => println!(rt; "operator {}", u8::from(op))?,
     }
     Ok(())
 }

@@ -9,6 +9,7 @@ use std::io::Read;
 use std::process::ExitCode;
 use std::{env, fs, io};
 use text::count_tokens;
+use tokens::Thin;
 
 const USAGE: &str = "print_job [--width W] [--height H] [FILE]
 
@@ -118,13 +119,9 @@ fn job(rt: &HostRuntime, file: &str) -> io::Result<Vec<u8>> {
 }
 
 fn print_answer(rt: &HostRuntime, source: &[u8]) -> io::Result<()> {
-    match count_tokens(source) {
+    match count_tokens::<Thin>(source) {
         Ok(n) => println!(rt; "tokens {n}"),
-        Err(refusal) => {
-            let number = refusal.number();
-            let place = refusal.place();
-            println!(rt; "refused {number} at {place}")
-        }
+        Err(refusal) => println!(rt; "{refusal}"),
     }
 }
 

@@ -1,6 +1,7 @@
 use session::order::Order;
 use std::alloc::Global;
-use whole_text::count_tokens;
+use text::count_tokens;
+use tokens::Whole;
 
 // What a session needs besides two numbers for each token and what may be kept: a header, a path and clips.
 const FIXED: u64 = 6148;
@@ -20,7 +21,7 @@ fn numbers(heap: Global, count: usize) -> Vec<u64> {
 
 // The numbers to lend for a job. A text that is refused needs none.
 pub fn numbers_for(heap: Global, source: &[u8], order: Order) -> Vec<u64> {
-    let tokens = count_tokens(source).unwrap_or(0) as u64;
+    let tokens = count_tokens::<Whole>(source).unwrap_or(0) as u64;
     let count = tokens
         .saturating_mul(2)
         .saturating_add(FIXED)

@@ -6,7 +6,7 @@
 
 ghost use Rattle.std.specs.Prelude.{◌≡◌, ◌<◌, ◌≤◌, length, replicate};
 ghost use Rattle.tokens.specs.Stored.{decode};
-ghost use Rattle.tokens.specs.Stage.{stage};
+ghost use Rattle.tokens.specs.Stage.{thin};
 ghost use Rattle.lexer.specs.Reading.{read};
 ghost use Rattle.machine.specs.Machine.{begin};
 ghost use Rattle.machine.specs.Laws.{state_of};
@@ -15,13 +15,14 @@ ghost use Rattle.run_bench.specs.Answers.{Counted};
 
 use run::count::count_pages;
 use text::count_tokens;
+use tokens::Thin;
 
 // How many tokens a text has; the largest number where it is refused.
 #[unsafe(no_mangle)]
 pub extern "C" fn text_count_tokens(source: &[u8]) -> u64
-    ensures { Counted result (read stage source.now) }
+    ensures { Counted result (read thin source.now) }
 {
-    match count_tokens(source) {
+    match count_tokens::<Thin>(source) {
         Ok(n) => n as u64,
         Err(_) => u64::MAX,
     }

@@ -6,9 +6,9 @@ use Rattle.tokens.specs.Token.{Tokens}
 use Rattle.tokens.specs.Stored.{all_stored}
 use Rattle.lexer.specs.Reading.{Read, tokens}
 use Rattle.lexer.specs.Reading as reading
-use Rattle.whole_text.specs.declared.refusal.Refusal.{Refusal}
-use Rattle.whole_text.specs.Refusing.{refusal_number, refusal_place, Checked}
-use Rattle.whole_text.specs.Storing.{StoredAs}
+use Rattle.text.specs.declared.refusal.Refusal.{Refusal}
+use Rattle.text.specs.Refusing.{refusal_number, refusal_place, Checked}
+use Rattle.text.specs.Storing.{StoredAs}
 use Rattle.session.specs.Jobs.{good_size}
 use Rattle.session.specs.Promise.{Order, turned_away, ready}
 use Rattle.session.specs.Regions.{path_room, clip_room, words_asked, opened_by, first_regions, joined}

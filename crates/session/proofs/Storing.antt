@@ -6,7 +6,7 @@ use Rattle.tokens.specs.Stored.{decode, all_stored}
 use Rattle.tokens.specs.Stage.{whole}
 use Rattle.lexer.specs.Reading.{Read, refused, tokens, read}
 use Rattle.lexer.proofs.Ranges.{read_in_range}
-use Rattle.whole_text.specs.Storing.{StoredAs}
+use Rattle.text.specs.Storing.{StoredAs}
 use Rattle.machine.specs.Machine.{run, begin}
 use Rattle.machine.specs.Laws.{state_of}
 use Rattle.listing.specs.Lines.{listing_of}

@@ -3,8 +3,8 @@ use Rattle.std.specs.Prelude.{◌≡◌, ℕ, ◌+◌, ◌*◌, ◌≤◌, min, 
 use Rattle.tokens.specs.Token.{Tokens, size}
 use Rattle.tokens.specs.Stored.{all_stored}
 use Rattle.lexer.specs.Reading.{Read, refused, tokens}
-use Rattle.whole_text.specs.declared.refusal.Refusal.{Refusal}
-use Rattle.whole_text.specs.Refusing.{refusal_number, refusal_place}
+use Rattle.text.specs.declared.refusal.Refusal.{Refusal}
+use Rattle.text.specs.Refusing.{refusal_number, refusal_place}
 use Rattle.machine.specs.Machine.{run, begin}
 use Rattle.machine.specs.Laws.{state_of}
 use Rattle.listing.specs.Lines.{listing_of}

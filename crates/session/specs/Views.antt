@@ -4,8 +4,8 @@ use Rattle.tokens.specs.Token.{Tokens, size}
 use Rattle.tokens.specs.Stage.{whole}
 use Rattle.lexer.specs.Reading.{Read, tokens, read}
 use Rattle.lexer.specs.Reading as reading
-use Rattle.whole_text.specs.declared.refusal.Refusal.{Refusal}
-use Rattle.whole_text.specs.Refusing.{refusal_number, refusal_place}
+use Rattle.text.specs.declared.refusal.Refusal.{Refusal}
+use Rattle.text.specs.Refusing.{refusal_number, refusal_place}
 use Rattle.session.specs.Jobs.{Asked, how_it_ends, band, Answer, ended, dots, refused}
 use Rattle.session.specs.Promise.{Memory, Opened, turned_away, ready, Order, job_of, Serves}
 use Rattle.session.specs.Regions.{Regions, joined, width_in, height_in, first_regions, opened_by, the_printer}

@@ -1,4 +1,4 @@
-use whole_text::refusal::Refusal;
+use text::refusal::Refusal;
 
 // What a job may do and what its pages are like: steps up to 10^9, width 1 to 8,192, height 1 to 65,535; and how many
 // numbers may be kept.

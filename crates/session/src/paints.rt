@@ -9,8 +9,9 @@ ghost use Rattle.session.specs.Listed.{listed_by, ListedAs, Judged};
 
 use super::layout::{CLIPS, PATH, words_left, zero_words};
 use listing::things::list_things;
-use whole_text::refusal::Refusal;
-use whole_text::{count_tokens, store_tokens};
+use text::refusal::Refusal;
+use text::{count_tokens, store_tokens};
+use tokens::Whole;
 
 // The steps, if a job may take so many.
 fn few_enough(steps: u64) -> Option<u32>
@@ -28,7 +29,7 @@ fn few_enough(steps: u64) -> Option<u32>
 fn judge(source: &[u8], steps: u64, words: usize) -> Result<u32, Refusal>
     ensures { Judged result (read whole source.now) steps words }
 {
-    let tokens = count_tokens(source)?;
+    let tokens = count_tokens::<Whole>(source)?;
     let Some(steps) = few_enough(steps) else {
         return Err(Refusal::TooLarge { place: 0 });
     };
@@ -64,7 +65,7 @@ pub fn list_paints(
     ensures { ListedAs result (listed_by (read whole source.now) steps (length words.old)) words.old bytes.old words.new bytes.new }
 {
     let steps = judge(source, steps, words.len())?;
-    let used = store_tokens(source, words)?;
+    let used = store_tokens::<Whole>(source, words)?;
     let end = used + PATH + CLIPS;
     Ok(list_stored(&mut words[0..end], used, bytes, steps))
 }

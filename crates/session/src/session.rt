@@ -10,8 +10,9 @@ use super::layout::{CLIPS, HEADER, PATH, ROWS, in_range, words_left, zero_all, z
 use super::order::{Order, Refused};
 use super::question::{Question, Reply};
 use super::reply::reply_in;
-use whole_text::refusal::Refusal;
-use whole_text::{count_tokens, store_tokens};
+use text::refusal::Refusal;
+use text::{count_tokens, store_tokens};
+use tokens::Whole;
 
 // The lent memory of an opened job, cut into its regions.
 #[derive(Drop)]
@@ -64,7 +65,7 @@ fn lay<'m>(used: usize, order: Order, words: &'m mut [u64], bytes: &'m mut [u8])
 fn admit(source: &[u8], order: Order, words: usize, bytes: usize) -> Result<(), Refusal>
     ensures { Admitted result (order_of source.now order words bytes) (read whole source.now) }
 {
-    let tokens = count_tokens(source)?;
+    let tokens = count_tokens::<Whole>(source)?;
     let Some(order) = in_range(order) else {
         return Err(Refusal::TooLarge { place: 0 });
     };
@@ -91,7 +92,7 @@ pub fn open<'m>(
     if let Err(why) = admit(source, order, words.len(), bytes.len()) {
         return Err(Refused { why, words, bytes });
     }
-    match store_tokens(source, words) {
+    match store_tokens::<Whole>(source, words) {
         Ok(used) => Ok(lay(used, order, words, bytes)),
         Err(why) => Err(Refused { why, words, bytes }),
     }

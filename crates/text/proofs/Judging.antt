@@ -1,11 +1,10 @@
 -- What a text is answered with, from what its three checks find.
-use Rattle.std.proofs.Common.{◌≡◌, ℕ, Bool, true, false, cond, ltb, List, [], length, Some, None, Ok, Err, Result, sym, refl, ap, ◌∙◌, subst, arith}
+use Rattle.std.proofs.Common.{◌≡◌, ℕ, Bool, true, false, cond, ltb, List, [], length, Ok, Err, Result, sym, refl, ap, ◌∙◌, subst, arith}
 use Rattle.text.specs.declared.refusal.Refusal.{Refusal}
 use Rattle.text.specs.declared.refusal.Refusal.TheVariants.{Unreadable, TooLarge}
 use Rattle.tokens.specs.Token.{Tokens, size}
 use Rattle.lexer.specs.Reading.{Fault, fine, at, Read, refused, tokens, unless, cannot_read, above_limit, build, read}
 use Rattle.lexer.specs.Lexing.{from}
-use Rattle.tokens.specs.Stage.{stage}
 use Rattle.text.specs.Refusing.{passed_with, Checked}
 use Rattle.lexer.proofs.Counting.{counted}
 use Rattle.lexer.proofs.Ranges.{tests_passed}
@@ -14,9 +13,9 @@ use Rattle.lexer.proofs.Ranges.{tests_passed}
 unfoldable pub judge : Fault → Bool → Fault → Tokens → Read
 judge f short g ts = unless f 1 (cond short (unless g 2 (tokens ts)) (refused 2 0))
 
-judged : (s : List ℕ) → read stage s ≡ judge (cannot_read (from s 0) (length s) 0) (ltb (length s) 16777216) (above_limit (from s 0) stage 0 0 []) (build (from s 0) [] [] [])
+judged : (can : ℕ → Bool) (s : List ℕ) → read can s ≡ judge (cannot_read (from s 0) (length s) 0) (ltb (length s) 16777216) (above_limit (from s 0) can 0 0 []) (build (from s 0) [] [] [])
 unfolding judge
-judged s = refl
+judged can s = refl
 
 pub unreadable : (p : ℕ) (short : Bool) (g : Fault) (ts : Tokens) → Checked (Err (Unreadable p)) (judge (at p) short g ts)
 unfolding judge unless
@@ -40,34 +39,34 @@ pub found_there : {A : Type 0} (b : A) (r : Refusal) (f : Fault) → Err r ≡ p
 found_there b r fine e = let z : ◌≡◌ {A = ℕ} 0 1 = cc in absurd (omega arith)
 found_there b r (at p) e = (p, cc, refl)
 
-pub judged_by : (s : List ℕ) (r : Result ℕ Refusal) (f : Fault) (short : Bool) → cannot_read (from s 0) (length s) 0 ≡ f → ltb (length s) 16777216 ≡ short → Checked r (judge f short (above_limit (from s 0) stage 0 0 []) (build (from s 0) [] [] [])) → Checked r (read stage s)
-judged_by s r f short e l h =
-    let above = above_limit (from s 0) stage 0 0 [] in
+pub judged_by : (can : ℕ → Bool) (s : List ℕ) (r : Result ℕ Refusal) (f : Fault) (short : Bool) → cannot_read (from s 0) (length s) 0 ≡ f → ltb (length s) 16777216 ≡ short → Checked r (judge f short (above_limit (from s 0) can 0 0 []) (build (from s 0) [] [] [])) → Checked r (read can s)
+judged_by can s r f short e l h =
+    let above = above_limit (from s 0) can 0 0 [] in
     let ts = build (from s 0) [] [] [] in
-    subst (Checked r) (sym (judged s)) (subst (λ z. Checked r (judge z (ltb (length s) 16777216) above ts)) (sym e) (subst (λ z. Checked r (judge f z above ts)) (sym l) h))
+    subst (Checked r) (sym (judged can s)) (subst (λ z. Checked r (judge z (ltb (length s) 16777216) above ts)) (sym e) (subst (λ z. Checked r (judge f z above ts)) (sym l) h))
 
--- whether a test let a value through
-pub left_out : (b : Bool) (n : ℕ) → None ≡ cond b (Some n) None → b ≡ false
-left_out true n e = let z : ◌≡◌ {A = ℕ} 0 1 = cc in absurd (omega arith)
-left_out false n e = refl
+-- whether a test let a text through
+pub left_out : (b : Bool) (e : Refusal) → ◌≡◌ {A = Result (Unit {0}) Refusal} (Err e) (cond b (Ok tt) (Err (TooLarge 0))) → (b ≡ false) × (e ≡ TooLarge 0)
+left_out true r e = let z : ◌≡◌ {A = ℕ} 0 1 = cc in absurd (omega arith)
+left_out false r e = (refl, cc)
 
-pub let_in : (b : Bool) (n m : ℕ) → Some m ≡ cond b (Some n) None → b ≡ true
-let_in true n m e = refl
-let_in false n m e = let z : ◌≡◌ {A = ℕ} 0 1 = cc in absurd (omega arith)
+pub let_in : (b : Bool) → ◌≡◌ {A = Result (Unit {0}) Refusal} (Ok tt) (cond b (Ok tt) (Err (TooLarge 0))) → b ≡ true
+let_in true e = refl
+let_in false e = let z : ◌≡◌ {A = ℕ} 0 1 = cc in absurd (omega arith)
 
 -- a text that was accepted passed every check, and its tokens are as many as its pieces
-pub record Accepted (s : List ℕ) (n : ℕ) : Type 0 where
+pub record Accepted (can : ℕ → Bool) (s : List ℕ) (n : ℕ) : Type 0 where
   pub readable : cannot_read (from s 0) (length s) 0 ≡ fine
-  pub within : above_limit (from s 0) stage 0 0 [] ≡ fine
-  pub is : read stage s ≡ tokens (build (from s 0) [] [] [])
+  pub within : above_limit (from s 0) can 0 0 [] ≡ fine
+  pub is : read can s ≡ tokens (build (from s 0) [] [] [])
   pub many : n ≡ length (from s 0)
 
 with_tokens : (n : ℕ) (r : Read) → Checked (Ok n) r → (ts : Tokens) × (r ≡ tokens ts) × (n ≡ size ts)
 with_tokens n (refused k p) h = absurd h
 with_tokens n (tokens ts) h = (ts, refl, h)
 
-pub accepted : (s : List ℕ) (n : ℕ) → Checked (Ok n) (read stage s) → Accepted s n
-accepted s n h =
-    let found = with_tokens n (read stage s) h in
-    let t = tests_passed (cannot_read (from s 0) (length s) 0) (above_limit (from s 0) stage 0 0 []) (ltb (length s) 16777216) (build (from s 0) [] [] []) found.0 found.1 in
+pub accepted : (can : ℕ → Bool) (s : List ℕ) (n : ℕ) → Checked (Ok n) (read can s) → Accepted can s n
+accepted can s n h =
+    let found = with_tokens n (read can s) h in
+    let t = tests_passed (cannot_read (from s 0) (length s) 0) (above_limit (from s 0) can 0 0 []) (ltb (length s) 16777216) (build (from s 0) [] [] []) found.0 found.1 in
     record { readable = t.0; within = t.2; is = found.1 ∙ ap tokens (sym t.3); many = found.2 ∙ ap size (sym t.3) ∙ counted (from s 0) [] (length s) t.0 }

@@ -1,12 +1,11 @@
 -- One lexeme of the pass over the limits.
-use Rattle.std.proofs.Common.{◌≡◌, ℕ, suc, ◌+◌, ◌-◌, ◌<◌, ◌≤◌, true, false, cond, eqb, ltb, List, [], ◌∷◌, length, Some, None, sym, refl, ap, ◌∙◌, subst, add-one, arith}
+use Rattle.std.proofs.Common.{◌≡◌, ℕ, suc, ◌+◌, ◌-◌, ◌<◌, ◌≤◌, Bool, true, false, cond, eqb, ltb, List, [], ◌∷◌, length, Some, None, sym, refl, ap, ◌∙◌, subst, add-one, arith}
 use Rattle.std.proofs.lemmas.Bool.{lt-ltb, le-ltb}
 use Rattle.lexer.specs.declared.Lexeme.{Lexeme}
 use Rattle.lexer.specs.declared.Lexeme.TheVariants.{End, Open, Close, Number, Word, Quoted, Wrong}
 use Rattle.lexer.specs.Reading.{Piece, opens, closes, digits, word, slashed, wrong, fine, at, cannot_read, above_limit}
 use Rattle.words.specs.Meaning.{Stands, Plain, plain_limit, plain_names}
 use Rattle.text.specs.Limits.{place_in}
-use Rattle.tokens.specs.Stage.{stage}
 use Rattle.lexer.specs.Lexing.{from, Saw}
 use Rattle.lexer.proofs.Faults.{not_fine, failed}
 
@@ -39,44 +38,44 @@ not_wrong (Quoted k w) n h = let z : ◌≡◌ {A = ℕ} 0 1 = cc in omega arith
 not_wrong (Wrong k) n h = h
 
 -- no room for one more token
-pub too_many : (q : Piece) (ps : List Piece) (t d : ℕ) (ws : List (List ℕ)) → ((n : ℕ) → q ≡ wrong n → ⊥) → 65536 ≤ t → above_limit (q ∷ ps) stage t d ws ≡ at (piece_place q)
+pub too_many : (can : ℕ → Bool) (q : Piece) (ps : List Piece) (t d : ℕ) (ws : List (List ℕ)) → ((n : ℕ) → q ≡ wrong n → ⊥) → 65536 ≤ t → above_limit (q ∷ ps) can t d ws ≡ at (piece_place q)
 unfolding above_limit
-too_many (opens n) ps t d ws h l = let f : ltb t 65536 ≡ false = le-ltb _ _ l in simp f
-too_many (closes n) ps t d ws h l = let f : ltb t 65536 ≡ false = le-ltb _ _ l in simp f
-too_many (digits n v) ps t d ws h l = let f : ltb t 65536 ≡ false = le-ltb _ _ l in simp f
-too_many (word n w) ps t d ws h l = let f : ltb t 65536 ≡ false = le-ltb _ _ l in simp f
-too_many (slashed n w) ps t d ws h l = let f : ltb t 65536 ≡ false = le-ltb _ _ l in simp f
-too_many (wrong n) ps t d ws h l = absurd (h n refl)
+too_many can (opens n) ps t d ws h l = let f : ltb t 65536 ≡ false = le-ltb _ _ l in simp f
+too_many can (closes n) ps t d ws h l = let f : ltb t 65536 ≡ false = le-ltb _ _ l in simp f
+too_many can (digits n v) ps t d ws h l = let f : ltb t 65536 ≡ false = le-ltb _ _ l in simp f
+too_many can (word n w) ps t d ws h l = let f : ltb t 65536 ≡ false = le-ltb _ _ l in simp f
+too_many can (slashed n w) ps t d ws h l = let f : ltb t 65536 ≡ false = le-ltb _ _ l in simp f
+too_many can (wrong n) ps t d ws h l = absurd (h n refl)
 
-pub too_deep : (n : ℕ) (ps : List Piece) (t d : ℕ) (ws : List (List ℕ)) → t < 65536 → 32 ≤ d → above_limit (opens n ∷ ps) stage t d ws ≡ at n
+pub too_deep : (can : ℕ → Bool) (n : ℕ) (ps : List Piece) (t d : ℕ) (ws : List (List ℕ)) → t < 65536 → 32 ≤ d → above_limit (opens n ∷ ps) can t d ws ≡ at n
 unfolding above_limit
-too_deep n ps t d ws l m =
+too_deep can n ps t d ws l m =
     let f : ltb t 65536 ≡ true = lt-ltb _ _ l in
     let g : ltb d 32 ≡ false = le-ltb _ _ m in
     simp (f, g)
 
-pub opened : (n : ℕ) (ps : List Piece) (t d : ℕ) (ws : List (List ℕ)) → t < 65536 → d < 32 → above_limit (opens n ∷ ps) stage t d ws ≡ above_limit ps stage (t + 1) (d + 1) ws
+pub opened : (can : ℕ → Bool) (n : ℕ) (ps : List Piece) (t d : ℕ) (ws : List (List ℕ)) → t < 65536 → d < 32 → above_limit (opens n ∷ ps) can t d ws ≡ above_limit ps can (t + 1) (d + 1) ws
 unfolding above_limit
-opened n ps t d ws l m =
+opened can n ps t d ws l m =
     let f : ltb t 65536 ≡ true = lt-ltb _ _ l in
     let g : ltb d 32 ≡ true = lt-ltb _ _ m in
     simp (f, g, add-one)
 
-pub closed : (n : ℕ) (ps : List Piece) (t d : ℕ) (ws : List (List ℕ)) → t < 65536 → above_limit (closes n ∷ ps) stage t d ws ≡ above_limit ps stage (t + 1) (d - 1) ws
+pub closed : (can : ℕ → Bool) (n : ℕ) (ps : List Piece) (t d : ℕ) (ws : List (List ℕ)) → t < 65536 → above_limit (closes n ∷ ps) can t d ws ≡ above_limit ps can (t + 1) (d - 1) ws
 unfolding above_limit
-closed n ps t d ws l =
+closed can n ps t d ws l =
     let f : ltb t 65536 ≡ true = lt-ltb _ _ l in
     simp (f, add-one)
 
 -- a number or a word
-pub plain_step : (q : Piece) (ps : List Piece) (t d : ℕ) (ws : List (List ℕ)) → Plain q → t < 65536 → above_limit (q ∷ ps) stage t d ws ≡ cond (plain_limit q ws) (above_limit ps stage (t + 1) d (plain_names q ws)) (at (piece_place q))
+pub plain_step : (can : ℕ → Bool) (q : Piece) (ps : List Piece) (t d : ℕ) (ws : List (List ℕ)) → Plain q → t < 65536 → above_limit (q ∷ ps) can t d ws ≡ cond (plain_limit can q ws) (above_limit ps can (t + 1) d (plain_names q ws)) (at (piece_place q))
 unfolding above_limit
-plain_step (opens n) ps t d ws h l = absurd h
-plain_step (closes n) ps t d ws h l = absurd h
-plain_step (digits n v) ps t d ws h l = let f : ltb t 65536 ≡ true = lt-ltb _ _ l in simp (f, add-one)
-plain_step (word n w) ps t d ws h l = let f : ltb t 65536 ≡ true = lt-ltb _ _ l in simp (f, add-one)
-plain_step (slashed n w) ps t d ws h l = let f : ltb t 65536 ≡ true = lt-ltb _ _ l in simp (f, add-one)
-plain_step (wrong n) ps t d ws h l = absurd h
+plain_step can (opens n) ps t d ws h l = absurd h
+plain_step can (closes n) ps t d ws h l = absurd h
+plain_step can (digits n v) ps t d ws h l = let f : ltb t 65536 ≡ true = lt-ltb _ _ l in simp (f, add-one)
+plain_step can (word n w) ps t d ws h l = let f : ltb t 65536 ≡ true = lt-ltb _ _ l in simp (f, add-one)
+plain_step can (slashed n w) ps t d ws h l = let f : ltb t 65536 ≡ true = lt-ltb _ _ l in simp (f, add-one)
+plain_step can (wrong n) ps t d ws h l = absurd h
 
 -- a lexeme that is no brace stands for a number or a word
 pub plain_of : (x : Lexeme) (q : Piece) → Stands x q → ((p : ℕ) → x ≡ Open p → ⊥) → ((p : ℕ) → x ≡ Close p → ⊥) → Plain q

@@ -1,13 +1,12 @@
 -- What one lexeme does to the counts that a text's limits are about. Cited by the contracts of the pass over the limits. Assumes nothing: these are definitions.
-use Rattle.std.specs.Prelude.{◌≡◌, ℕ, ◌+◌, ◌≤◌, List, ◌∷◌, Some, None, Option}
-use Rattle.std.specs.Borrow.{Bor}
+use Rattle.std.specs.Prelude.{◌≡◌, ℕ, ◌+◌, Bool, List, ◌∷◌, Some, None, Option}
 use Rattle.lexer.specs.declared.Lexeme.{Lexeme}
 use Rattle.lexer.specs.declared.Lexeme.TheVariants.{End, Open, Close, Number, Word, Quoted, Wrong}
 use Rattle.text.specs.declared.check.Counts.{Counts}
 use Rattle.lexer.specs.Reading.{Piece, Fault, at, above_limit}
-use Rattle.words.specs.Naming.{known_in}
+use Rattle.words.specs.Naming.{words_of}
+use Rattle.words.specs.declared.names.Names.{Names}
 use Rattle.words.specs.Meaning.{Stands}
-use Rattle.tokens.specs.Stage.{stage}
 
 -- where a lexeme begins; the end of the text is none
 abbrev pub place_in : Lexeme → Option ℕ
@@ -20,10 +19,10 @@ place_in (Quoted p w) = Some p
 place_in (Wrong p) = Some p
 
 -- the limits of what is left of a text, with the counts so far and the table of names
-abbrev pub limits : List Piece → Counts → List (Bor (List ℕ)) → Fault
-limits ps c ns = above_limit ps stage c.tokens c.depth (known_in ns c.known)
+abbrev pub limits : (ℕ → Bool) → List Piece → Counts → Names → Fault
+limits can ps c n = above_limit ps can c.tokens c.depth (words_of n)
 
 -- a lexeme is admitted, and what is left decides; or it is above a limit, and its place is the fault's
-abbrev pub Admits : Option Counts → Lexeme → Counts → List (Bor (List ℕ)) → List (Bor (List ℕ)) → Type 0
-Admits None x c ns ms = (q : Piece) (p : ℕ) (ps : List Piece) → Stands x q → place_in x ≡ Some p → limits (q ∷ ps) c ns ≡ at p
-Admits (Some d) x c ns ms = (q : Piece) (ps : List Piece) → Stands x q → (d.known ≤ 256) × (d.tokens ≡ c.tokens + 1) × (limits (q ∷ ps) c ns ≡ limits ps d ms)
+abbrev pub Admits : (ℕ → Bool) → Option Counts → Lexeme → Counts → Names → Names → Type 0
+Admits can None x c n m = (q : Piece) (p : ℕ) (ps : List Piece) → Stands x q → place_in x ≡ Some p → limits can (q ∷ ps) c n ≡ at p
+Admits can (Some d) x c n m = (q : Piece) (ps : List Piece) → Stands x q → (d.tokens ≡ c.tokens + 1) × (limits can (q ∷ ps) c n ≡ limits can ps d m)

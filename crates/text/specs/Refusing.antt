@@ -1,5 +1,5 @@
 -- The numbers and places of refusals, and what reading answers in them. Cited by the contracts of reading and of all that refuse. Assumes nothing: these are definitions.
-use Rattle.std.specs.Prelude.{◌≡◌, ℕ, Ok, Err, Result}
+use Rattle.std.specs.Prelude.{◌≡◌, ℕ, List, ◌++◌, Ok, Err, Result, codes, decimal}
 use Rattle.text.specs.declared.refusal.Refusal.{Refusal}
 use Rattle.text.specs.declared.refusal.Refusal.TheVariants.{Unreadable, TooLarge, TooLittleMemory}
 use Rattle.tokens.specs.Token.{size}
@@ -15,6 +15,10 @@ abbrev pub refusal_place : Refusal → ℕ
 refusal_place (Unreadable p) = p
 refusal_place (TooLarge p) = p
 refusal_place (TooLittleMemory p) = p
+
+-- how a refusal is printed
+abbrev pub refusal_bytes : Refusal → List ℕ
+refusal_bytes r = codes "refused " ++ (decimal (refusal_number r) ++ (codes " at " ++ decimal (refusal_place r)))
 
 -- a pass over a text: a value if it finds no fault, else a refusal at the fault's place
 abbrev pub passed_with : {A : Type 0} → (ℕ → Refusal) → A → Fault → Result A Refusal

@@ -1,15 +1,15 @@
-ghost use Rattle.std.specs.Prelude.{◌≡◌, ◌+◌, ◌<◌, ◌≤◌, [], length, if◌then◌else◌, Some, None, MatchOption, nat_lt};
+ghost use Rattle.std.specs.Prelude.{◌≡◌, ◌+◌, ◌<◌, ◌≤◌, [], length, if◌then◌else◌, Ok, Err, MatchOption, nat_lt};
 ghost use Rattle.text.specs.declared.refusal.Refusal.TheVariants.{Unreadable, TooLarge};
 ghost use Rattle.lexer.specs.Reading.{cannot_read, above_limit, fine, read};
 ghost use Rattle.lexer.specs.Lexing.{from};
-ghost use Rattle.tokens.specs.Stage.{stage};
 ghost use Rattle.text.specs.Limits.{Admits, place_in};
 ghost use Rattle.text.specs.Refusing.{passed_with, Checked};
 
 use super::refusal::Refusal;
 use lexer::{Lexeme, lexeme_at};
+use tokens::Stage;
 use words::meaning::plain_token;
-use words::names::NAMES;
+use words::names::Names;
 
 // How many tokens a text may have, braces counted.
 pub const TOKENS: usize = 65536;
@@ -33,29 +33,25 @@ fn readable(source: &[u8]) -> Result<(), Refusal>
             Lexeme::Wrong { place } => return Err(Refusal::Unreadable { place }),
             Lexeme::Open { .. } => open += 1,
             Lexeme::Close { place } => {
-                let Some(left) = open.checked_sub(1) else {
-                    return Err(Refusal::Unreadable { place });
-                };
-                open = left;
+                open = open.checked_sub(1).ok_or(Refusal::Unreadable { place })?;
             }
             Lexeme::Number { .. } | Lexeme::Word { .. } | Lexeme::Quoted { .. } => {}
         }
         at = next;
     }
-    let 0 = open else {
+    if open != 0 {
         return Err(Refusal::Unreadable {
             place: source.len(),
         });
-    };
+    }
     Ok(())
 }
 
-// How far a pass over a text has come: tokens, open braces, names.
+// How far a pass over a text has come: tokens, open braces.
 #[derive(Clone, Copy)]
 struct Counts {
     tokens: usize,
     depth: usize,
-    known: usize,
 }
 
 // A count with one more, where that is still within its limit.
@@ -71,102 +67,68 @@ fn place(lexeme: Lexeme) -> Option<usize>
 {
     match lexeme {
         Lexeme::End => None,
-        Lexeme::Open { place } => Some(place),
-        Lexeme::Close { place } => Some(place),
-        Lexeme::Number { place, .. } => Some(place),
-        Lexeme::Word { place, .. } => Some(place),
-        Lexeme::Quoted { place, .. } => Some(place),
-        Lexeme::Wrong { place } => Some(place),
+        Lexeme::Open { place }
+        | Lexeme::Close { place }
+        | Lexeme::Number { place, .. }
+        | Lexeme::Word { place, .. }
+        | Lexeme::Quoted { place, .. }
+        | Lexeme::Wrong { place } => Some(place),
     }
 }
 
 // The counts with one lexeme more; none where it is above a limit.
-fn admit<'a>(lexeme: Lexeme<'a>, counts: Counts, names: &mut [&'a [u8]]) -> Option<Counts>
-    requires { (length names.old ≡ 256) × (counts.known ≤ 256) }
-    ensures { Admits result lexeme.entry counts names.old names.new }
+fn admit<'a, S: Stage>(lexeme: Lexeme<'a>, counts: Counts, names: &mut Names<'a>) -> Option<Counts>
+    ensures { Admits S.can result lexeme.entry counts names.old names.new }
 {
-    let Counts {
-        tokens,
-        depth,
-        known,
-    } = counts;
-    let Some(tokens) = one_more(tokens, TOKENS) else {
-        return None;
-    };
-    match lexeme {
-        Lexeme::Open { .. } => {
-            let Some(depth) = one_more(depth, DEPTH) else {
-                return None;
-            };
-            Some(Counts {
-                tokens,
-                depth,
-                known,
-            })
-        }
-        Lexeme::Close { .. } => Some(Counts {
-            tokens,
-            depth: depth.saturating_sub(1),
-            known,
-        }),
+    let tokens = one_more(counts.tokens, TOKENS)?;
+    let depth = match lexeme {
+        Lexeme::Open { .. } => one_more(counts.depth, DEPTH)?,
+        Lexeme::Close { .. } => counts.depth.saturating_sub(1),
         _ => {
-            let Some((_, known)) = plain_token(lexeme, names, known) else {
-                return None;
-            };
-            Some(Counts {
-                tokens,
-                depth,
-                known,
-            })
+            plain_token::<S>(lexeme, names)?;
+            counts.depth
         }
-    }
+    };
+    Some(Counts { tokens, depth })
 }
 
 // How many tokens a text that can be read has, braces counted, or the first that is above a limit.
-fn within_limits<'a>(source: &'a [u8], names: &mut [&'a [u8]]) -> Result<usize, Refusal>
-    requires { (length names.old ≡ 256) × (cannot_read (from source.now 0) (length source.now) 0 ≡ fine) }
-    ensures { result ≡ passed_with TooLarge (length (from source.now 0)) (above_limit (from source.now 0) stage 0 0 []) }
+fn within_limits<S: Stage>(source: &[u8]) -> Result<usize, Refusal>
+    requires { cannot_read (from source.now 0) (length source.now) 0 ≡ fine }
+    ensures { result ≡ passed_with TooLarge (length (from source.now 0)) (above_limit (from source.now 0) S.can 0 0 []) }
 {
     let mut at = 0;
+    let mut names = Names::new();
     let mut counts = Counts {
         tokens: 0,
         depth: 0,
-        known: 0,
     };
     loop {
         let (lexeme, next) = lexeme_at(source, at);
         let Some(place) = place(lexeme) else {
             return Ok(counts.tokens);
         };
-        let Some(more) = admit(lexeme, counts, names) else {
-            return Err(Refusal::TooLarge { place });
-        };
-        counts = more;
+        counts = admit::<S>(lexeme, counts, &mut names).ok_or(Refusal::TooLarge { place })?;
         at = next;
     }
 }
 
-// The length of a text that is short enough to be looked at further.
-fn short(source: &[u8]) -> Option<usize>
-    ensures { result ≡ (if nat_lt (length source.now) 16777216 then Some (length source.now) else None) }
+// Whether a text is short enough to be looked at further.
+fn short(source: &[u8]) -> Result<(), Refusal>
+    ensures { result ≡ (if nat_lt (length source.now) 16777216 then Ok tt else Err (TooLarge 0)) }
 {
     if source.len() < BYTES {
-        Some(source.len())
+        Ok(())
     } else {
-        None
+        Err(Refusal::TooLarge { place: 0 })
     }
 }
 
 // How many tokens a text has, braces counted, or why and where it is refused; no memory is needed for it.
-pub fn count_tokens(source: &[u8]) -> Result<usize, Refusal>
-    ensures { Checked result (read stage source.now) }
+pub fn count_tokens<S: Stage>(source: &[u8]) -> Result<usize, Refusal>
+    ensures { Checked result (read S.can source.now) }
 {
-    if let Err(refusal) = readable(source) {
-        return Err(refusal);
-    }
-    let Some(_) = short(source) else {
-        return Err(Refusal::TooLarge { place: 0 });
-    };
-    let mut names = [&source[0..0]; NAMES];
-    within_limits(source, &mut names)
+    readable(source)?;
+    short(source)?;
+    within_limits::<S>(source)
 }

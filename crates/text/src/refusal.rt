@@ -1,8 +1,10 @@
-ghost use Rattle.std.specs.Prelude.{◌≡◌};
-ghost use Rattle.text.specs.Refusing.{refusal_number, refusal_place};
+ghost use Rattle.std.specs.Prelude.{◌≡◌, Some};
+ghost use Rattle.text.specs.Refusing.{refusal_number, refusal_place, refusal_bytes};
+
+use std::fmt;
 
 // Why a job is turned away, with the place that is told.
-#[derive(Clone, Copy)]
+#[derive(Clone, Copy, Debug, PartialEq, Eq)]
 pub enum Refusal {
     // a byte that cannot stand there, a word too long, a brace that closes nothing or is left open
     Unreadable { place: usize },
@@ -31,5 +33,13 @@ impl Refusal {
             Refusal::TooLarge { place } => place,
             Refusal::TooLittleMemory { place } => place,
         }
+    }
+}
+
+impl fmt::Display for Refusal {
+    ghost output = { λ r. Some (refusal_bytes r) };
+
+    fn fmt<W: fmt::Write>(&self, f: &mut fmt::Formatter<W>) -> fmt::Result {
+        write!(f, "refused {} at {}", self.number(), self.place())
     }
 }

@@ -2,10 +2,11 @@
 ghost use Rattle.std.specs.Prelude.{true, []};
 
 use path::extent::Extent;
+use text::store_tokens;
+use tokens::Whole;
 use whole_machine::outside::number_of_fault;
 use whole_run::drive::{Ending, Sink};
 use whole_run::job::run_job;
-use whole_text::store_tokens;
 
 // how many steps a job may take where nothing else is said
 const PLENTY: u32 = 10000;
@@ -82,10 +83,10 @@ fn print_run(rt: &HostRuntime, tokens: &[u64], steps: u32) -> anyhow::Result<()>
 pub fn report_run(rt: &HostRuntime, name: &str, source: &[u8], steps: u32) -> anyhow::Result<()> {
     let mut words = vec![in rt.alloc(); 0u64; 8192]?;
     print!(rt; "{name}: ")?;
-    match store_tokens(source, &mut words) {
+    match store_tokens::<Whole>(source, &mut words) {
         Ok(n) => print_run(rt, &words[0..n.min(words.len())], steps),
         Err(refusal) => {
-            println!(rt; "refused {} at {}", refusal.number(), refusal.place())?;
+            println!(rt; "{refusal}")?;
             Ok(())
         }
     }

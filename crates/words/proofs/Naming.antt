@@ -1,18 +1,51 @@
 -- The table of names: looking a word up, and entering it.
-use Rattle.std.proofs.Common.{◌≡◌, ℕ, suc, ◌+◌, ◌<◌, ◌≤◌, true, false, List, [], ◌∷◌, ◌++◌, length, get_or, take, drop, set, sym, refl, ap, ◌∙◌, inl, inr, add-one, arith, length-take, drop-cons, take-suc-set, Bor}
+use Rattle.std.proofs.Common.{rules, ◌≡◌, ℕ, ◌<◌, ◌≤◌, cond, ltb, List, [], ◌∷◌, ◌++◌, length, Some, None, Option, sym, refl, ap, subst, ◌∙◌, inl, inr, arith, Bor, bytes_eq}
 use lib.ListN.{length-map}
+use Rattle.std.specs.List.{position_or_len}
+use Rattle.std.specs.Option.{MatchOption}
 use Rattle.std.proofs.lemmas.List.{map-append}
+use Rattle.std.proofs.lemmas.List.Recursion.{is_position_or_len}
 use Rattle.std.proofs.lemmas.Bool.{cases_Bool}
+use Rattle.std.proofs.lemmas.Slice.Eq.{slice_eq-Decides, compares_Decides}
+use Rattle.std.proofs.lemmas.Bool.Decides.{same_from_decides, Decides-eqb, nat_tests}
 use Rattle.lexer.specs.Reading.{same_word, place_of, with_word}
-use Rattle.words.specs.Naming.{words_in, known_in}
+use Rattle.words.specs.Naming.{words_in}
 
-pub looked_here : (ns : List (Bor (List ℕ))) (w : List ℕ) (i : ℕ) (d : Bor (List ℕ)) → i < length ns → true ≡ same_word (get_or ns i d).now w → place_of (words_in (drop i ns)) w ≡ 0
-unfolding place_of
-looked_here ns w i d h t = rw (drop-cons ns i d) (simp (sym t))
+-- both decide whether the two words are the same
+pub same_bytes : (v w : List ℕ) → bytes_eq v w ≡ same_word v w
+unfolding same_word
+same_bytes v w = same_from_decides (bytes_eq v w) (same_word v w) (slice_eq-Decides Decides-eqb v w (bytes_eq v w) refl) (compares_Decides same_word (search rules) v w)
 
-pub looked_past : (ns : List (Bor (List ℕ))) (w : List ℕ) (i : ℕ) (d : Bor (List ℕ)) → i < length ns → false ≡ same_word (get_or ns i d).now w → place_of (words_in (drop i ns)) w ≡ suc (place_of (words_in (drop (i + 1) ns)) w)
+-- the first of some words that is the same
+pub looked_up : (ns : List (Bor (List ℕ))) (w : List ℕ) → place_of (words_in ns) w ≡ position_or_len (λ r. bytes_eq r.now w) ns
 unfolding place_of
-looked_past ns w i d h t = rw (add-one, drop-cons ns i d) (simp (sym t))
+looked_up ns w = is_position_or_len (λ xs. place_of (words_in xs) w) (λ r. bytes_eq r.now w) refl (λ x xs. rw (same_bytes x.now w) (ap (cond (same_word x.now w) 0) (omega arith))) ns
+
+told : (p n : ℕ) → MatchOption (cond (ltb p n) (Some p) None) (n ≤ p) (λ k. (k ≡ p) × (k < n))
+told p n =
+    elim (cases_Bool (ltb p n)) [
+      | inl t ↦ let h : p < n = grind (arith, nat_tests) in simp t (refl, h)
+      | inr t ↦ let h : n ≤ p = grind (arith, nat_tests) in simp t h
+    ]
+
+-- where a word was found, or that it was not
+abbrev pub Looked : List (Bor (List ℕ)) → List ℕ → Option ℕ → Type 0
+Looked ns w r = MatchOption r (length ns ≤ place_of (words_in ns) w) (λ k. (k ≡ place_of (words_in ns) w) × (k < length ns))
+
+pub found_place : (ns : List (Bor (List ℕ))) (w : List ℕ) (r : Option ℕ) → r ≡ cond (ltb (position_or_len (λ r. bytes_eq r.now w) ns) (length ns)) (Some (position_or_len (λ r. bytes_eq r.now w) ns)) None → Looked ns w r
+found_place ns w r e =
+    let p = position_or_len (λ r. bytes_eq r.now w) ns in
+    subst (λ z. MatchOption r (length ns ≤ z) (λ k. (k ≡ z) × (k < length ns))) (sym (looked_up ns w)) (subst (λ z. MatchOption z (length ns ≤ p) (λ k. (k ≡ p) × (k < length ns))) (sym e) (told p (length ns)))
+
+pub place_within : (ws : List (List ℕ)) (w : List ℕ) → place_of ws w ≤ length ws
+unfolding place_of
+place_within [] w = omega arith
+place_within (v ∷ vs) w =
+    let k = place_within vs w in
+    elim (cases_Bool (same_word v w)) [
+      | inl t ↦ simp t (omega arith)
+      | inr t ↦ simp t (omega arith)
+    ]
 
 -- a word that is there leaves the words as they are; another one comes last
 pub with_known : (ws : List (List ℕ)) (w : List ℕ) → place_of ws w < length ws → with_word ws w ≡ ws
@@ -33,16 +66,9 @@ with_new (v ∷ vs) w h =
       | inr t ↦ let k : length vs ≤ place_of vs w = omega (arith, simp t at h) in simp t (ap (λ z. v ∷ z) (with_new vs w k))
     ]
 
-known_many : (ns : List (Bor (List ℕ))) (n : ℕ) → n ≤ length ns → length (known_in ns n) ≡ n
-known_many ns n h = simp (length-map, length-take) (omega arith)
+-- as many words as references
+pub many : (ns : List (Bor (List ℕ))) → length (words_in ns) ≡ length ns
+many ns = simp length-map refl
 
-pub entered_known : (ns : List (Bor (List ℕ))) (n k : ℕ) (w : List ℕ) → n ≤ length ns → k ≡ place_of (known_in ns n) w → k < n → known_in ns n ≡ with_word (known_in ns n) w
-entered_known ns n k w h e l =
-    let m = known_many ns n h in
-    sym (with_known (known_in ns n) w (omega arith))
-
-pub entered_new : (ns : List (Bor (List ℕ))) (n k : ℕ) (r : Bor (List ℕ)) → n < length ns → k ≡ place_of (known_in ns n) r.now → k ≡ n → known_in (set ns k r) (n + 1) ≡ with_word (known_in ns n) r.now
-entered_new ns n k r h e l =
-    let m = known_many ns n (omega arith) in
-    let t : take (n + 1) (set ns n r) ≡ take n ns ++ (r ∷ []) = rw (add-one, take-suc-set ns n r h) in
-    ap (λ z. known_in (set ns z r) (n + 1)) l ∙ ap words_in t ∙ map-append (λ z. z.now) (take n ns) (r ∷ []) ∙ sym (with_new (known_in ns n) r.now (omega arith))
+pub entered_new : (ns : List (Bor (List ℕ))) (r : Bor (List ℕ)) → length ns ≤ place_of (words_in ns) r.now → words_in (ns ++ (r ∷ [])) ≡ with_word (words_in ns) r.now
+entered_new ns r h = map-append (λ z. z.now) ns (r ∷ []) ∙ sym (with_new (words_in ns) r.now (omega (arith, many ns)))

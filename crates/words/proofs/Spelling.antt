@@ -1,30 +1,29 @@
--- A word looked up among the operators, one after another.
-use Rattle.std.proofs.Common.{◌≡◌, ℕ, zero, suc, ◌+◌, ◌-◌, ◌<◌, cond, List, Some, None, Option, refl, ap, ◌∙◌, arith}
-use Rattle.tokens.specs.Token.{Operator}
+-- A word looked up among the operators.
+use Rattle.std.proofs.Common.{bytes_eq, ◌≡◌, ℕ, cond, List, [], ◌∷◌, refl, inl, inr}
+use Rattle.std.specs.List.{find}
+use Rattle.std.proofs.lemmas.Bool.{cases_Bool}
 use Rattle.lexer.specs.Reading.{Found, operator, no_operator, same_word, as_operator}
-use Rattle.tokens.specs.Stored.{operator_at, known}
+use Rattle.tokens.specs.Stored.{operator_of}
+use Rattle.tokens.specs.declared.operator.Operator as code
 use Rattle.words.specs.Spelling.{spelled, found_as}
-use Rattle.tokens.specs.declared.Operator as code
+use Rattle.words.proofs.Naming.{same_bytes}
+use Rattle.words.specs.declared.operators.TheConstants.{OPERATORS}
 
-abbrev pub found_at : Option Operator → Found
-found_at None = no_operator
-found_at (Some o) = operator o
+-- the first of some operators that a word is
+unfoldable pub named_in : List code.Operator → List ℕ → Found
+named_in [] w = no_operator
+named_in (o ∷ os) w = cond (same_word w (spelled (operator_of o))) (operator (operator_of o)) (named_in os w)
 
-unfoldable pub named_from : ℕ → ℕ → List ℕ → Found
-named_from zero k w = no_operator
-named_from (suc n) k w = cond (same_word w (spelled k)) (found_at (operator_at k)) (named_from n (suc k) w)
+pub found_in : (os : List code.Operator) (w : List ℕ) → found_as (find (λ o. bytes_eq w (spelled (operator_of o))) os) ≡ named_in os w
+unfolding named_in
+found_in [] w = refl
+found_in (o ∷ os) w =
+    let e = same_bytes w (spelled (operator_of o)) in
+    elim (cases_Bool (same_word w (spelled (operator_of o)))) [
+      | inl t ↦ simp (e, t)
+      | inr t ↦ simp (e, t) (found_in os w)
+    ]
 
-pub all_named : (w : List ℕ) → as_operator w ≡ named_from 21 0 w
-unfolding as_operator named_from
+pub all_named : (w : List ℕ) → named_in OPERATORS w ≡ as_operator w
+unfolding as_operator named_in
 all_named w = refl
-
-pub named_more : (k : ℕ) (w : List ℕ) → k < 21 → named_from (21 - k) k w ≡ cond (same_word w (spelled k)) (found_at (operator_at k)) (named_from (21 - (k + 1)) (k + 1) w)
-unfolding named_from
-named_more k w h =
-    let e : 21 - k ≡ suc (21 - (k + 1)) = omega arith in
-    let s : suc k ≡ k + 1 = omega arith in
-    ap (λ z. named_from z k w) e ∙ ap (λ z. cond (same_word w (spelled k)) (found_at (operator_at k)) (named_from (21 - (k + 1)) z w)) s
-
-pub found_known : (r : Option code.Operator) → found_as r ≡ found_at (known r)
-found_known None = refl
-found_known (Some op) = refl

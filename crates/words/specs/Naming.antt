@@ -1,17 +1,18 @@
 -- The table of names that a text has used so far. Cited by the contracts of the passes over a text. Assumes nothing: these are definitions.
-use Rattle.std.specs.Prelude.{◌≡◌, ℕ, ◌<◌, ◌≤◌, false, List, map, take, Some, None, Option, nat_lt}
+use Rattle.std.specs.Prelude.{◌≡◌, ℕ, ◌<◌, false, List, map, Some, None, Option, nat_lt}
 use Rattle.std.specs.Borrow.{Bor}
 use Rattle.lexer.specs.Reading.{place_of, with_word}
+use Rattle.words.specs.declared.names.Names.{Names}
 
 -- the words that some references point to
 abbrev pub words_in : List (Bor (List ℕ)) → List (List ℕ)
 words_in ns = map (λ r. r.now) ns
 
--- the words of a table of which so many places are used
-abbrev pub known_in : List (Bor (List ℕ)) → ℕ → List (List ℕ)
-known_in ns n = words_in (take n ns)
+-- the words of a table
+abbrev pub words_of : Names → List (List ℕ)
+words_of n = words_in n.words.items
 
 -- a word is entered: its number is its place among the words, and the table then has it; or there is no room for it, and the table is as it was
-abbrev pub Entered : Option (ℕ × ℕ) → ℕ → List ℕ → List (Bor (List ℕ)) → List (Bor (List ℕ)) → Type 0
-Entered None n w ns ms = (nat_lt (place_of (known_in ns n) w) 256 ≡ false) × (ms ≡ ns)
-Entered (Some p) n w ns ms = (p.0 ≡ place_of (known_in ns n) w) × (p.0 < 256) × (p.1 ≤ 256) × (known_in ms p.1 ≡ with_word (known_in ns n) w)
+abbrev pub Entered : Option ℕ → List ℕ → Names → Names → Type 0
+Entered None w n m = (nat_lt (place_of (words_of n) w) 256 ≡ false) × (m ≡ n)
+Entered (Some k) w n m = (k ≡ place_of (words_of n) w) × (k < 256) × (words_of m ≡ with_word (words_of n) w)

@@ -1,6 +1,7 @@
 -- How operators are spelled, and what the code answers of a word. Cited by the contracts of operators. Assumes nothing: these are definitions.
-use Rattle.std.specs.Prelude.{ℕ, cond, List, [], ◌∷◌, Some, None, Option, ◌==◌}
-use Rattle.tokens.specs.declared.Operator as code
+use Rattle.std.specs.Prelude.{ℕ, List, [], ◌∷◌, Some, None, Option}
+use Rattle.tokens.specs.declared.operator.Operator as code
+use Rattle.tokens.specs.Token.{Operator, adds, takes, multiplies, divides, is_less, copies, drops, swaps, defines, repeats, when, moves, lines, fills, clips_by, greys, shifts, scales, keeps, back, shows}
 use Rattle.lexer.specs.Reading.{Found, operator, no_operator}
 use Rattle.tokens.specs.Stored.{operator_of}
 
@@ -9,28 +10,26 @@ abbrev pub found_as : Option code.Operator → Found
 found_as None = no_operator
 found_as (Some op) = operator (operator_of op)
 
--- how the operator of a number is spelled, in bytes
-abbrev pub spelled : ℕ → List ℕ
-spelled n =
-    (cond (n == 0) (97 ∷ (100 ∷ (100 ∷ (115 ∷ []))))
-    (cond (n == 1) (116 ∷ (97 ∷ (107 ∷ (101 ∷ (115 ∷ [])))))
-    (cond (n == 2) (109 ∷ (117 ∷ (108 ∷ (116 ∷ (105 ∷ (112 ∷ (108 ∷ (105 ∷ (101 ∷ (115 ∷ []))))))))))
-    (cond (n == 3) (100 ∷ (105 ∷ (118 ∷ (105 ∷ (100 ∷ (101 ∷ (115 ∷ [])))))))
-    (cond (n == 4) (105 ∷ (115 ∷ (45 ∷ (108 ∷ (101 ∷ (115 ∷ (115 ∷ [])))))))
-    (cond (n == 5) (99 ∷ (111 ∷ (112 ∷ (105 ∷ (101 ∷ (115 ∷ []))))))
-    (cond (n == 6) (100 ∷ (114 ∷ (111 ∷ (112 ∷ (115 ∷ [])))))
-    (cond (n == 7) (115 ∷ (119 ∷ (97 ∷ (112 ∷ (115 ∷ [])))))
-    (cond (n == 8) (100 ∷ (101 ∷ (102 ∷ (105 ∷ (110 ∷ (101 ∷ (115 ∷ [])))))))
-    (cond (n == 9) (114 ∷ (101 ∷ (112 ∷ (101 ∷ (97 ∷ (116 ∷ (115 ∷ [])))))))
-    (cond (n == 10) (119 ∷ (104 ∷ (101 ∷ (110 ∷ []))))
-    (cond (n == 11) (109 ∷ (111 ∷ (118 ∷ (101 ∷ (115 ∷ [])))))
-    (cond (n == 12) (108 ∷ (105 ∷ (110 ∷ (101 ∷ (115 ∷ [])))))
-    (cond (n == 13) (102 ∷ (105 ∷ (108 ∷ (108 ∷ (115 ∷ [])))))
-    (cond (n == 14) (99 ∷ (108 ∷ (105 ∷ (112 ∷ (115 ∷ (45 ∷ (98 ∷ (121 ∷ []))))))))
-    (cond (n == 15) (103 ∷ (114 ∷ (101 ∷ (121 ∷ (115 ∷ [])))))
-    (cond (n == 16) (115 ∷ (104 ∷ (105 ∷ (102 ∷ (116 ∷ (115 ∷ []))))))
-    (cond (n == 17) (115 ∷ (99 ∷ (97 ∷ (108 ∷ (101 ∷ (115 ∷ []))))))
-    (cond (n == 18) (107 ∷ (101 ∷ (101 ∷ (112 ∷ (115 ∷ [])))))
-    (cond (n == 19) (98 ∷ (97 ∷ (99 ∷ (107 ∷ []))))
-    (cond (n == 20) (115 ∷ (104 ∷ (111 ∷ (119 ∷ (115 ∷ [])))))
-    [])))))))))))))))))))))
+-- how an operator is spelled, in bytes
+abbrev pub spelled : Operator → List ℕ
+spelled adds = 97 ∷ (100 ∷ (100 ∷ (115 ∷ [])))
+spelled takes = 116 ∷ (97 ∷ (107 ∷ (101 ∷ (115 ∷ []))))
+spelled multiplies = 109 ∷ (117 ∷ (108 ∷ (116 ∷ (105 ∷ (112 ∷ (108 ∷ (105 ∷ (101 ∷ (115 ∷ [])))))))))
+spelled divides = 100 ∷ (105 ∷ (118 ∷ (105 ∷ (100 ∷ (101 ∷ (115 ∷ []))))))
+spelled is_less = 105 ∷ (115 ∷ (45 ∷ (108 ∷ (101 ∷ (115 ∷ (115 ∷ []))))))
+spelled copies = 99 ∷ (111 ∷ (112 ∷ (105 ∷ (101 ∷ (115 ∷ [])))))
+spelled drops = 100 ∷ (114 ∷ (111 ∷ (112 ∷ (115 ∷ []))))
+spelled swaps = 115 ∷ (119 ∷ (97 ∷ (112 ∷ (115 ∷ []))))
+spelled defines = 100 ∷ (101 ∷ (102 ∷ (105 ∷ (110 ∷ (101 ∷ (115 ∷ []))))))
+spelled repeats = 114 ∷ (101 ∷ (112 ∷ (101 ∷ (97 ∷ (116 ∷ (115 ∷ []))))))
+spelled when = 119 ∷ (104 ∷ (101 ∷ (110 ∷ [])))
+spelled moves = 109 ∷ (111 ∷ (118 ∷ (101 ∷ (115 ∷ []))))
+spelled lines = 108 ∷ (105 ∷ (110 ∷ (101 ∷ (115 ∷ []))))
+spelled fills = 102 ∷ (105 ∷ (108 ∷ (108 ∷ (115 ∷ []))))
+spelled clips_by = 99 ∷ (108 ∷ (105 ∷ (112 ∷ (115 ∷ (45 ∷ (98 ∷ (121 ∷ [])))))))
+spelled greys = 103 ∷ (114 ∷ (101 ∷ (121 ∷ (115 ∷ []))))
+spelled shifts = 115 ∷ (104 ∷ (105 ∷ (102 ∷ (116 ∷ (115 ∷ [])))))
+spelled scales = 115 ∷ (99 ∷ (97 ∷ (108 ∷ (101 ∷ (115 ∷ [])))))
+spelled keeps = 107 ∷ (101 ∷ (101 ∷ (112 ∷ (115 ∷ []))))
+spelled back = 98 ∷ (97 ∷ (99 ∷ (107 ∷ [])))
+spelled shows = 115 ∷ (104 ∷ (111 ∷ (119 ∷ (115 ∷ []))))

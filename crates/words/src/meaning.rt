@@ -1,62 +1,29 @@
-ghost use Rattle.std.specs.Prelude.{◌≡◌, ◌≤◌, length};
 ghost use Rattle.lexer.specs.Reading.{Piece};
 ghost use Rattle.words.specs.Meaning.{Stands, WordRead, PlainRead};
 
-use super::names::enter;
-use super::operators::{in_stage, operator_named};
+use super::names::Names;
+use super::operators::operator_named;
 use lexer::{CAP, Lexeme};
-use tokens::Token;
+use tokens::{Stage, Token};
 
-// The token that a word is, and how many names are known with it; none where it is above a limit.
-fn word_token<'a>(
-    letters: &'a [u8],
-    names: &mut [&'a [u8]],
-    known: usize,
-) -> Option<(Token<'a>, usize)>
-    requires { (length names.old ≡ 256) × (known ≤ 256) }
-    ensures { WordRead result letters.now names.old known names.new }
+// The token that a word is; none where it is above a limit.
+fn word_token<'a, S: Stage>(letters: &'a [u8], names: &mut Names<'a>) -> Option<Token<'a>>
+    ensures { WordRead S.can result letters.now names.old names.new }
 {
     match operator_named(letters) {
-        Some(op) => {
-            if in_stage(op) {
-                Some((Token::Does(op), known))
-            } else {
-                None
-            }
-        }
-        None => {
-            let Some((k, more)) = enter(names, known, letters) else {
-                return None;
-            };
-            Some((Token::Name(k), more))
-        }
+        Some(op) => S::does(op).then_some(Token::Does(op)),
+        None => Some(Token::Name(names.enter(letters)?)),
     }
 }
 
-// The token that a number or a word is, and how many names are known with it; none where it is above a limit.
-pub fn plain_token<'a>(
-    lexeme: Lexeme<'a>,
-    names: &mut [&'a [u8]],
-    known: usize,
-) -> Option<(Token<'a>, usize)>
-    requires { (length names.old ≡ 256) × (known ≤ 256) }
-    ensures { PlainRead result lexeme.entry names.old known names.new }
+// The token that a number or a word is; none where it is above a limit, and of any other lexeme.
+pub fn plain_token<'a, S: Stage>(lexeme: Lexeme<'a>, names: &mut Names<'a>) -> Option<Token<'a>>
+    ensures { PlainRead S.can result lexeme.entry names.old names.new }
 {
     match lexeme {
-        Lexeme::Number { value, .. } => {
-            if value < CAP {
-                Some((Token::Number(value), known))
-            } else {
-                None
-            }
-        }
-        Lexeme::Word { letters, .. } => word_token(letters, names, known),
-        Lexeme::Quoted { letters, .. } => {
-            let Some((k, more)) = enter(names, known, letters) else {
-                return None;
-            };
-            Some((Token::Quoted(k), more))
-        }
+        Lexeme::Number { value, .. } => (value < CAP).then_some(Token::Number(value)),
+        Lexeme::Word { letters, .. } => word_token::<S>(letters, names),
+        Lexeme::Quoted { letters, .. } => Some(Token::Quoted(names.enter(letters)?)),
         Lexeme::End | Lexeme::Open { .. } | Lexeme::Close { .. } | Lexeme::Wrong { .. } => None,
     }
 }

@@ -1,37 +1,39 @@
-ghost use Rattle.std.specs.Prelude.{◌≡◌, ◌≤◌, length};
-ghost use Rattle.lexer.specs.Reading.{place_of};
-ghost use Rattle.words.specs.Naming.{words_in, Entered};
+ghost use Rattle.std.specs.Prelude.{◌≡◌, []};
+ghost use Rattle.words.specs.Naming.{words_of, Entered};
 
-use super::operators::same;
+use arrayvec::ArrayVec;
 
 // How many different names a text may have.
 pub const NAMES: usize = 256;
 
-// Where a word stands among names that came before, or how many these are.
-fn find(names: &[&[u8]], letters: &[u8]) -> usize
-    ensures value { result ≡ place_of (words_in names.now) letters.now }
-    ensures bound { result ≤ length names.now }
-{
-    for i in 0..names.len() {
-        if same(names[i], letters) {
-            return i;
-        }
-    }
-    names.len()
+// The names that a text has used so far, numbered as they came; each is a part of the text.
+#[derive(Drop)]
+pub struct Names<'a> {
+    words: ArrayVec<&'a [u8], NAMES>,
 }
 
-// The number of a name, and how many names are known with it; none where there is no room for one more.
-pub fn enter<'a>(names: &mut [&'a [u8]], known: usize, letters: &'a [u8]) -> Option<(u8, usize)>
-    requires { (length names.old ≡ 256) × (known ≤ 256) }
-    ensures { Entered result known letters.now names.old names.new }
-{
-    let k = find(&names[0..known], letters);
-    if k >= NAMES {
-        return None;
+impl<'a> Names<'a> {
+    pub fn new() -> Self
+        ensures { words_of result ≡ [] }
+    {
+        Names {
+            words: ArrayVec::new(),
+        }
     }
-    if k < known {
-        return Some((k as u8, known));
+
+    // The number of a name, which is entered where it is new; none where there is no room for one more.
+    pub fn enter(&mut self, letters: &'a [u8]) -> Option<u8>
+        ensures { Entered result letters.now self.old self.new }
+    {
+        let known = self.words.as_slice();
+        if let Some(k) = known.iter().position(|name| *name == letters) {
+            return Some(k as u8);
+        }
+        if self.words.is_full() {
+            return None;
+        }
+        let k = self.words.len();
+        self.words.push(letters);
+        Some(k as u8)
     }
-    names[k] = letters;
-    Some((k as u8, known + 1))
 }

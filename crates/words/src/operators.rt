@@ -1,57 +1,61 @@
 ghost use Rattle.std.specs.Prelude.{◌≡◌};
-ghost use Rattle.tokens.specs.Token.{number_of};
-ghost use Rattle.lexer.specs.Reading.{as_operator, same_word};
+ghost use Rattle.lexer.specs.Reading.{as_operator};
 ghost use Rattle.tokens.specs.Stored.{operator_of};
-ghost use Rattle.tokens.specs.Stage.{stage};
 ghost use Rattle.words.specs.Spelling.{found_as, spelled};
 
-use tokens::{Operator, number, operator_from};
+use tokens::Operator;
 
-// How many operators there are.
-const OPERATORS: u64 = 21;
+// The operators, in the order of their numbers.
+const OPERATORS: [Operator; 21] = [
+    Operator::Adds,
+    Operator::Takes,
+    Operator::Multiplies,
+    Operator::Divides,
+    Operator::IsLess,
+    Operator::Copies,
+    Operator::Drops,
+    Operator::Swaps,
+    Operator::Defines,
+    Operator::Repeats,
+    Operator::When,
+    Operator::Moves,
+    Operator::Lines,
+    Operator::Fills,
+    Operator::ClipsBy,
+    Operator::Greys,
+    Operator::Shifts,
+    Operator::Scales,
+    Operator::Keeps,
+    Operator::Back,
+    Operator::Shows,
+];
 
-// Whether two words are the same, letter by letter.
-pub fn same(a: &[u8], b: &[u8]) -> bool
-    ensures { result ≡ same_word a.now b.now }
+// How an operator is spelled.
+fn spelling(op: Operator) -> &'static [u8]
+    ensures { result.now ≡ spelled (operator_of op) }
 {
-    a == b
-}
-
-// Whether this stage can do an operator.
-pub fn in_stage(op: Operator) -> bool
-    ensures { result ≡ stage (number_of (operator_of op)) }
-{
-    let n = number(op);
-    (11 <= n && n <= 13) || n == 15 || n == 20
-}
-
-// How the operator of a number is spelled; of no other number.
-fn spelling(number: u64) -> &'static [u8]
-    ensures { result.now ≡ spelled number }
-{
-    match number {
-        0 => b"adds",
-        1 => b"takes",
-        2 => b"multiplies",
-        3 => b"divides",
-        4 => b"is-less",
-        5 => b"copies",
-        6 => b"drops",
-        7 => b"swaps",
-        8 => b"defines",
-        9 => b"repeats",
-        10 => b"when",
-        11 => b"moves",
-        12 => b"lines",
-        13 => b"fills",
-        14 => b"clips-by",
-        15 => b"greys",
-        16 => b"shifts",
-        17 => b"scales",
-        18 => b"keeps",
-        19 => b"back",
-        20 => b"shows",
-        _ => b"",
+    match op {
+        Operator::Adds => b"adds",
+        Operator::Takes => b"takes",
+        Operator::Multiplies => b"multiplies",
+        Operator::Divides => b"divides",
+        Operator::IsLess => b"is-less",
+        Operator::Copies => b"copies",
+        Operator::Drops => b"drops",
+        Operator::Swaps => b"swaps",
+        Operator::Defines => b"defines",
+        Operator::Repeats => b"repeats",
+        Operator::When => b"when",
+        Operator::Moves => b"moves",
+        Operator::Lines => b"lines",
+        Operator::Fills => b"fills",
+        Operator::ClipsBy => b"clips-by",
+        Operator::Greys => b"greys",
+        Operator::Shifts => b"shifts",
+        Operator::Scales => b"scales",
+        Operator::Keeps => b"keeps",
+        Operator::Back => b"back",
+        Operator::Shows => b"shows",
     }
 }
 
@@ -59,10 +63,8 @@ fn spelling(number: u64) -> &'static [u8]
 pub fn operator_named(letters: &[u8]) -> Option<Operator>
     ensures { found_as result ≡ as_operator letters.now }
 {
-    for k in 0..OPERATORS {
-        if same(letters, spelling(k)) {
-            return operator_from(k);
-        }
-    }
-    None
+    OPERATORS
+        .iter()
+        .find(|op| letters == spelling(**op))
+        .copied()
 }

@@ -1,17 +1,20 @@
-use Rattle.std.proofs.Common.{◌≡◌, true, false, eqb, get_or, ◌∙◌, arith}
-use Rattle.std.proofs.lemmas.Bool.{eq-eqb, ne_eqb}
-use Rattle.lexer.proofs.Scanning.{remark_goes, remark_ends, remark_over}
+use Rattle.std.proofs.Common.{◌≡◌, ◌+◌, length, drop, sym, ap, ◌∙◌, length-drop, arith}
+use Rattle.std.specs.List.{prefix_len}
+use Rattle.std.proofs.lemmas.List.Sums.{prefix_len-le-length}
+use Rattle.std.proofs.lemmas.Slice.{between_to_end}
+use Rattle.lexer.specs.Lexing.{from, in_line}
+use Rattle.lexer.proofs.Scanning.{remark_skipped}
+use Rattle.lexer.proofs.skip_remark.Goals.{After-line_length}
 use Rattle.lexer.proofs.skip_remark.Goals as goal
 
-pub loop-i-preserved : goal.loop-i-preserved
-loop-i-preserved c =
-    let n : eqb (get_or c.args.source.now c.loop-i.i 0) 10 ≡ false = ne_eqb _ _ (λ h. omega arith) in
-    (omega arith, c.loop-i.invariant.1 ∙ remark_goes c.args.source.now c.loop-i.i (omega arith) n)
+many : (c : After-line_length) → c.line_length.result ≡ prefix_len in_line (drop c.args.at c.args.source.now)
+many c = c.line_length.ensures ∙ ap (prefix_len in_line) (between_to_end c.args.source.now c.args.at (length c.args.source.now) (omega arith))
 
-pub returns-else-source-i-ne10 : goal.returns-else-source-i-ne10
-returns-else-source-i-ne10 c =
-    let n : eqb (get_or c.args.source.now c.loop-i.i 0) 10 ≡ true = eq-eqb _ _ (omega arith) in
-    record { rest = c.loop-i.invariant.1 ∙ remark_ends c.args.source.now c.loop-i.i (omega arith) n; bound = c.loop-i.invariant.0 }
+pub overflow_add-result : goal.overflow_add-result
+overflow_add-result c =
+    let s = c.args.source.now in
+    let d = drop c.args.at s in
+    omega (arith, many c, prefix_len-le-length in_line d, length-drop c.args.at s)
 
-pub returns-after-loop-i : goal.returns-after-loop-i
-returns-after-loop-i c = record { rest = c.loop-i.invariant.1 ∙ remark_over c.args.source.now c.loop-i.i (omega arith); bound = c.loop-i.invariant.0 }
+pub returns-clause-rest : goal.returns-clause-rest
+returns-clause-rest c = remark_skipped c.args.source.now c.args.at c.requires ∙ ap (λ n. from c.args.source.now (c.args.at + n)) (sym (many (goal.at.returns-clause-rest c).After-line_length))

@@ -8,10 +8,10 @@ use Rattle.text.proofs.store.store_all.Goals as goal
 
 -- the row of the whole text is its tokens
 pub returns : goal.returns
-returns c =
+returns g c =
     let row = c.store_row.ensures.row in
     let n = c.store_row.result.used in
-    let is : turned row.row none ≡ build (from c.args.source.now 0) [] [] [] = sym (row.built [] [] refl ∙ ap (λ z. turned z none) (append-nil row.row)) in
+    let is : turned row.row none ≡ build (from c.args.source.now 0) [] [] [] = sym (row.built [] [] refl ∙ ap (λ z. turned z none) (append-nil row.row)) ∙ ap (λ ws. build (from c.args.source.now 0) ws [] []) c.new.ensures in
     record {
       value = row.ends ∙ (omega arith) ∙ ap (λ z. length (all_stored z)) is;
       after = sym (take-append-drop n c.store_row.new.words) ∙ ap (λ z. z ++ drop n c.store_row.new.words) (row.front ∙ ap all_stored is) ∙ ap (λ z. all_stored (build (from c.args.source.now 0) [] [] []) ++ z) row.behind;

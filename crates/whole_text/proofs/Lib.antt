@@ -1,4 +1,0 @@
-pub mod Judging
-pub mod Limiting
-pub mod Passing
-pub mod Storing

@@ -1,4 +1,0 @@
-pub mod Laws
-pub mod Limits
-pub mod Refusing
-pub mod Storing
