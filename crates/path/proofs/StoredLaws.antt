@@ -91,15 +91,12 @@ cut_twice (suc k) w n =
       | inr le ↦ let e : min w n ≡ w = omega arith in ap (λ m. min (suc k * m) n) e
     ]
 
-pub pieces_cut : (size end : ℕ) (ws : List ℕ) → 0 < length ws → min (size * get_or ws 0 0) (length ws - 1) ≡ end →
-    pieces size ws ≡ take end (drop 1 ws) ∷ pieces size (drop (1 + end) ws)
-pieces_cut size end [] some e = let no : ⊥ = omega arith in absurd no
-pieces_cut size end (c ∷ ws) some e =
-    let same : min (size * c) (length ws) ≡ min end (length ws) = omega arith in
-    let n : 1 + end ≡ suc end = omega arith in
-    let one : drop (1 + end) (c ∷ ws) ≡ drop end ws = ap (λ k. drop k (c ∷ ws)) n in
-    pieces_more size c ws ∙ ap (λ p. p ∷ pieces size (drop (size * c) ws)) (take-cut (size * c) end ws same)
-    ∙ ap (λ r. take end ws ∷ pieces size r) (drop-cut (size * c) end ws same ∙ sym one)
+pub pieces_cut : (size count end : ℕ) (ws : List ℕ) → min (size * count) (length ws) ≡ end → pieces size (count ∷ ws) ≡ take end ws ∷ pieces size (drop end ws)
+pieces_cut size count end ws e =
+    let same : min (size * count) (length ws) ≡ min end (length ws) = omega arith in
+    pieces_more size count ws
+    ∙ ap (λ p. p ∷ pieces size (drop (size * count) ws)) (take-cut (size * count) end ws same)
+    ∙ ap (λ r. take end ws ∷ pieces size r) (drop-cut (size * count) end ws same)
 
 complete_more : (n m : ℕ) (ws : List ℕ) → n ≤ m → complete_by n ws ≡ true → complete_by m ws ≡ true
 unfolding complete_by

@@ -16,5 +16,7 @@
 #![tactic(auto)]
 
 pub mod builder;
+pub mod corner;
 pub mod cursor;
 pub mod extent;
+pub mod stored;
