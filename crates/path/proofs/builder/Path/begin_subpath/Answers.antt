@@ -1,5 +1,4 @@
 use Rattle.std.proofs.Common.{◌+◌, set, refl, arith, rules}
-use Rattle.path.specs.Building.{points_of}
 use Rattle.path.specs.declared.builder.Front.{Front}
 use Rattle.path.proofs.BuildLaws.{laid_of, spans_of, kept, begun, spare, spans_spare, spans_none, laid_begun, spans_begun, rings_begun, ring_begun, total_is}
 use Rattle.path.proofs.builder.Path.begin_subpath.Goals as goal
