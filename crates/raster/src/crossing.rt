@@ -1,4 +1,4 @@
-ghost use Rattle.std.specs.Prelude.{◌≡◌, ℕ, suc, ◌+◌, ◌*◌, ◌^◌, ◌<◌, ◌≤◌, length};
+ghost use Rattle.std.specs.Prelude.{◌≡◌, ℕ, suc, ◌+◌, ◌*◌, ◌<◌, ◌≤◌, length};
 ghost use Rattle.bits.specs.Row.{bit_at, odd_below, Within};
 ghost use Rattle.path.specs.Points.{point_of};
 ghost use Rattle.path.specs.Stored.{points_in, rings_in};
@@ -6,11 +6,11 @@ ghost use Rattle.raster.specs.Coverage.{crosses, differ, in_ring, in_path};
 
 use super::edge::crossed;
 use bits::row::{Span, toggle};
-use path::cursor::{Corner, first_subpath, next_point};
+use path::corner::Corner;
+use path::cursor::{first_subpath, next_point};
 
 // Changes the bit of the first dot from `left` on that is past the edge's crossing with the level, if there is such a dot.
 fn cross(bits: &mut [u64], from: Corner, to: Corner, level: u32, left: usize, span: Span) -> Span
-    requires near { (from.x < 2 ^ 24) × (from.y < 2 ^ 24) × (to.x < 2 ^ 24) × (to.y < 2 ^ 24) }
     requires within { Within bits.old span.low span.high }
     ensures value { (x : ℕ) → left ≤ x → x < 64 * length bits.old → odd_below (bit_at bits.new) (suc x) ≡ differ (crosses (point_of from) (point_of to) (16 * x + 8) level) (odd_below (bit_at bits.old) (suc x)) }
     ensures within { Within bits.new result.low result.high }

@@ -21,8 +21,6 @@ loop-next-preserved c =
           (c.cross-crossings.ensures.value x le (omega arith))
           ∙ c.loop-next.invariant.0 x le lt,
       c.cross-crossings.ensures.within,
-      n.near.0,
-      n.near.1,
       omega (arith, n.rest),
     )
 

@@ -1,4 +1,4 @@
-use Rattle.std.proofs.Common.{◌≡◌, ℕ, suc, ◌+◌, ◌*◌, ◌^◌, ◌<◌, ◌≤◌, length}
+use Rattle.std.proofs.Common.{◌≡◌, ℕ, suc, ◌+◌, ◌*◌, ◌<◌, ◌≤◌, length}
 use Rattle.bits.specs.Row.{bit_at, odd_below, Within}
 use Rattle.path.specs.Points.{point_of}
 use Rattle.path.specs.Stored.{points_in}
@@ -12,8 +12,6 @@ invariant-loop-next l =
     differ (along (point_of l.first) (points_in l.rest) (point_of l.last) (16 * x + 8) l.level) (odd_below (bit_at l.bits) (suc x))
     ≡ differ (along (point_of l.first) (points_in l.initial.rest) (point_of l.first) (16 * x + 8) l.level) (odd_below (bit_at l.initial.bits) (suc x)))
     × Within l.bits l.crossings.low l.crossings.high
-    × (l.last.x < 2 ^ 24)
-    × (l.last.y < 2 ^ 24)
     × (length l.rest ≤ length l.initial.rest)
 
 abbrev pub decreases-loop-next : goal.decreases-loop-next
