@@ -2,7 +2,7 @@ ghost use Rattle.std.specs.Prelude.{◌≡◌, ◌+◌, ◌*◌};
 ghost use Rattle.machine.specs.Abstraction.{place_of, Placed};
 
 use super::GraphicsState;
-use path::cursor::Corner;
+use path::corner::Corner;
 
 // how far along an axis a number lies
 fn along(origin: u32, scale: u32, n: u32) -> u64

@@ -38,9 +38,7 @@ impl<'s, 'a> Machine<'s, 'a> {
         let Some(corner) = self.graphics.place(a, b) else {
             return Err(Fault::OutOfRange);
         };
-        if !path.begin_subpath(corner.x, corner.y) {
-            return Err(Fault::LimitExceeded);
-        }
+        path.begin_subpath(corner)?;
         self.drop_operands(2);
         Ok(Event::On)
     }
@@ -55,9 +53,7 @@ impl<'s, 'a> Machine<'s, 'a> {
         let Some(corner) = self.graphics.place(a, b) else {
             return Err(Fault::OutOfRange);
         };
-        if !path.append_point(corner.x, corner.y) {
-            return Err(Fault::LimitExceeded);
-        }
+        path.append_point(corner)?;
         self.drop_operands(2);
         Ok(Event::On)
     }
