@@ -15,9 +15,7 @@ pub(crate) fn move_to<'s, 'a>(m: &mut Machine<'s, 'a>, path: &mut Path<'_>) -> R
     let Some(corner) = m.place(a, b) else {
         return Err(Fault::OutOfRange);
     };
-    if !path.begin_subpath(corner.x, corner.y) {
-        return Err(Fault::LimitExceeded);
-    }
+    path.begin_subpath(corner)?;
     m.drop_operands(2);
     Ok(Event::On)
 }
@@ -33,9 +31,7 @@ pub(crate) fn line_to<'s, 'a>(m: &mut Machine<'s, 'a>, path: &mut Path<'_>) -> R
     let Some(corner) = m.place(a, b) else {
         return Err(Fault::OutOfRange);
     };
-    if !path.append_point(corner.x, corner.y) {
-        return Err(Fault::LimitExceeded);
-    }
+    path.append_point(corner)?;
     m.drop_operands(2);
     Ok(Event::On)
 }

@@ -1,11 +1,13 @@
 -- What the code's machine, its path and its events mean to the written machine. The code holds nothing that was painted or shown before: a state is one for any such past. Cited by the contracts of this crate and of those who drive a machine. Assumes nothing: these are definitions.
-use Rattle.std.specs.Prelude.{◌≡◌, ℕ, ◌+◌, ◌*◌, ◌^◌, ◌<◌, Bool, true, false, List, [], ◌∷◌, ◌++◌, map, reverse, length, take, Some, None, Ok, Err, Option, Result, nat_le, slice_index_or}
+use Rattle.std.specs.Prelude.{◌≡◌, ℕ, ◌+◌, ◌*◌, Bool, true, false, List, [], ◌∷◌, ◌++◌, map, reverse, length, take, Some, None, Ok, Err, Option, Result, nat_le, slice_index_or}
 use Rattle.std.specs.Borrow.{Bor}
 use Rattle.tokens.specs.Token.{Tokens}
 use Rattle.tokens.specs.Stored.{decode}
 use Rattle.path.specs.declared.builder.Path.{Path}
 use Rattle.path.specs.Path.{Point, Ring, Paint, points}
-use Rattle.path.specs.declared.cursor.Corner.{Corner}
+use Rattle.path.specs.declared.builder.PathError.{PathError}
+use Rattle.path.specs.declared.builder.PathError.TheVariants.{NoSubpath, TooManyPoints}
+use Rattle.path.specs.declared.corner.Corner.{Corner}
 use Rattle.path.specs.Points.{point, point_of}
 use Rattle.path.specs.Stored.{rings_in}
 use Rattle.path.specs.Building.{rings_of, ring_of}
@@ -30,6 +32,11 @@ fault_number NoCurrentPoint = 5
 fault_number NothingKept = 6
 fault_number LimitExceeded = 7
 fault_number StepsUsedUp = 8
+
+-- how a job ends where its path refuses a point
+abbrev pub fault_of : PathError → Fault
+fault_of NoSubpath = NoCurrentPoint
+fault_of TooManyPoints = LimitExceeded
 
 abbrev pub value_of : code_value.Value → Value
 value_of (code_value.TheVariants.Number n) = amount n
@@ -151,7 +158,7 @@ place_of g a b = point (g.left + a * g.scale) (g.top + b * g.scale)
 
 abbrev pub Placed : Option Corner → Point → Type 0
 Placed None q = near_enough q ≡ false
-Placed (Some c) q = (near_enough q ≡ true) × (point_of c ≡ q) × (c.x < 2 ^ 24) × (c.y < 2 ^ 24)
+Placed (Some c) q = (near_enough q ≡ true) × (point_of c ≡ q)
 
 -- another grey
 abbrev pub with_grey : State → ℕ → State

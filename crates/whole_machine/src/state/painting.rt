@@ -3,7 +3,7 @@ ghost use Rattle.whole_machine.specs.Abstraction.{Past, state, place_of, with_gr
 
 use super::Machine;
 use path::builder::Path;
-use path::cursor::Corner;
+use path::corner::Corner;
 
 impl<'s, 'a> Machine<'s, 'a> {
     // a point of the page under the graphics state, unless it is too far from the corner
