@@ -284,11 +284,14 @@ mod tests {
         }
     }
 
-    fn add_ring(path: &mut Path<'_>, points: [(u8, u8); 4]) -> Result<(), PathError> {
-        let [first, others @ ..] = points;
+    fn add_ring(
+        path: &mut Path<'_>,
+        first: (u8, u8),
+        others: &[(u8, u8)],
+    ) -> Result<(), PathError> {
         path.begin_subpath(corner(first.0, first.1))?;
         for (x, y) in others {
-            path.append_point(corner(x, y))?;
+            path.append_point(corner(*x, *y))?;
         }
         Ok(())
     }
@@ -300,8 +303,8 @@ mod tests {
         let mut path = Path::new(&mut words);
         assert!(rt; !path.is_open());
         assert!(rt; path.append_point(corner(3, 3)) == Err(PathError::NoSubpath));
-        assert!(rt; add_ring(&mut path, [(0, 0), (32, 0), (32, 32), (0, 32)]).is_ok());
-        assert!(rt; add_ring(&mut path, [(16, 0), (32, 0), (32, 16), (16, 16)]).is_ok());
+        assert!(rt; add_ring(&mut path, (0, 0), &[(32, 0), (32, 32), (0, 32)]).is_ok());
+        assert!(rt; add_ring(&mut path, (16, 0), &[(32, 0), (32, 16), (16, 16)]).is_ok());
         assert!(rt; path.is_open());
         assert_eq!(rt; path.points(), 8);
         let used = path.used();
