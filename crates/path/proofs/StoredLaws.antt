@@ -45,7 +45,7 @@ pub paths_more : (c : ℕ) (ws : List ℕ) → paths_in (c ∷ ws) ≡ rings_in 
 unfolding paths_in
 paths_more c ws = ap (map rings_in) (pieces_more 1 c ws)
 
--- the same for a piece and a rest that a cursor has found
+-- the same for a piece and a rest that an iterator has found
 pub rings_split : (ws piece rest : List ℕ) → pieces 2 ws ≡ piece ∷ pieces 2 rest → rings_in ws ≡ points_in piece ∷ rings_in rest
 unfolding rings_in
 rings_split ws piece rest e = ap (map points_in) e

@@ -1,5 +1,8 @@
 ghost use Rattle.std.specs.Prelude.{◌^◌, ◌<◌};
 
+// No number of a point reaches this.
+pub const LIMIT: u32 = 1 << 24;
+
 // A point as the code holds it, in sixteenths of a dot from the left and from the top.
 #[derive(Clone, Copy, Debug, PartialEq, Eq)]
 pub struct Corner {

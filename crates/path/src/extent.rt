@@ -3,6 +3,7 @@ ghost use Rattle.path.specs.Reading.{points_left};
 ghost use Rattle.path.specs.Stored.{rings_in};
 ghost use Rattle.path.specs.Extent.{ring_top, ring_bottom, ExtentOf};
 
+use super::corner::LIMIT;
 use super::stored::{Points, Subpaths};
 
 // The levels of a path's points, in sixteenths of a dot: no edge crosses one above `top`, or one at or below `bottom`.
@@ -18,7 +19,7 @@ impl Extent {
         ensures { ExtentOf result [] }
     {
         Extent {
-            top: 16777216,
+            top: LIMIT,
             bottom: 0,
         }
     }

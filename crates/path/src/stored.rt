@@ -4,13 +4,10 @@ ghost use Rattle.path.specs.Points.{point_of};
 ghost use Rattle.path.specs.Reading.{points_left, rings_left, paths_left};
 ghost use Rattle.path.specs.Stored.{pieces, points_in, rings_in, paths_in};
 
-use super::corner::Corner;
-
-// A word holds a number cut to 24 bits.
-const SPAN: u64 = 1 << 24;
+use super::corner::{Corner, LIMIT};
 
 // The first counted piece of `words`, where each counted thing has `size` words, and the rest.
-pub(crate) fn first_piece(words: &[u64], size: usize) -> Option<(&[u64], &[u64])>
+fn first_piece(words: &[u64], size: usize) -> Option<(&[u64], &[u64])>
     requires { size ≤ 2 }
     ensures cases { MatchOption result (pieces size words.now ≡ []) (λ p. pieces size words.now ≡ p.0.now ∷ pieces size p.1.now) }
     ensures rest { MatchOption result (length words.now ≡ 0) (λ p. length p.0.now + length p.1.now + 1 ≡ length words.now) }
@@ -49,8 +46,8 @@ impl<'a> Iterator for Points<'a> {
         };
         self.words = others;
         Some(Corner {
-            x: (*x % SPAN) as u32,
-            y: (*y % SPAN) as u32,
+            x: (*x % LIMIT as u64) as u32,
+            y: (*y % LIMIT as u64) as u32,
         })
     }
 }
