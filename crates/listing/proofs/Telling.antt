@@ -9,11 +9,8 @@ use Rattle.whole_run.specs.declared.drive.Ending.{Ending}
 use Rattle.whole_run.specs.Sinks.{is_stopped, all_painted, all_shown, past_of, told, Driven}
 use Rattle.listing.specs.Lines.{thing_lines, page_line, page_lines, unshown_line, unshown_lines, listing, listing_of}
 use Rattle.listing.specs.Output.{Output, output, put_text, Wrote}
-use Rattle.listing.specs.Views.{Told, with_thing, with_shown}
+use Rattle.listing.specs.Views.{Told, telling, mark_of, with_thing, with_shown}
 use Rattle.listing.proofs.Writing.{wrote_none, put_append, then, same_text, written}
-
-abbrev telling : Output → ℕ → Bool → Told
-telling o k u = record { output = o; pages = k; unshown = u }
 
 -- whether anything is painted since the last page, once these things are
 abbrev left : Bool → List Paint → Bool
@@ -58,7 +55,7 @@ marked (p ∷ ps) = refl
 
 -- a run that a listing was told of from the first, and what stands there once the mark is written
 module _ (bs : List ℕ) (steps : ℕ) (s : State) (r : Ending) (before after : Told) (end : Output) (room : length bs < 18446744073709551616) (short : steps < 18446744073709551616)
-    (first : before ≡ telling (output 0 bs) 0 false) (d : Driven with_thing with_shown (λ t. true) r steps s before after) (mark : Wrote (cond after.unshown unshown_line []) after.output end) where
+    (first : before ≡ telling (output 0 bs) 0 false) (d : Driven with_thing with_shown (λ t. true) r steps s before after) (mark : Wrote (mark_of after) after.output end) where
   runs : is_stopped r ≡ false
   runs = elim (cases_Bool (is_stopped r)) [ inl e ↦ absurd (true≢false (d.enough e)) | inr e ↦ e ]
 

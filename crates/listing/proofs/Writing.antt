@@ -1,6 +1,5 @@
 -- Text written piece by piece, and what it leaves in the bytes.
 use Rattle.std.proofs.Common.{◌≡◌, ℕ, ◌+◌, ◌≤◌, min, List, [], ◌∷◌, ◌++◌, length, take, drop, sym, refl, ap, ◌∙◌, arith}
-use Rattle.std.specs.List.{flat_map}
 use Rattle.std.proofs.lemmas.List.{append_assoc, length-append, length_push, set_at, set_past}
 use Rattle.listing.specs.Output.{Output, output, put_byte, put_text, Wrote}
 
@@ -23,13 +22,6 @@ then {xs} {ys} {o} e f = record { is = f.is ∙ ap (put_text ys) e.is ∙ sym (p
 
 pub same_text : {xs ys : List ℕ} {o p : Output} → xs ≡ ys → Wrote xs o p → Wrote ys o p
 same_text {o = o} e f = record { is = f.is ∙ ap (λ z. put_text z o) e }
-
--- what is left of several pieces of text comes to the same after one more, and is nothing at the end
-pub pieces_more : {X : Type 0} (f : X → List ℕ) (x : X) (xs ys : List X) {o p : Output} → ys ≡ x ∷ xs → Wrote (f x) o p → put_text (flat_map f xs) p ≡ put_text (flat_map f ys) o
-pieces_more f x xs ys {o = o} e g = ap (put_text (flat_map f xs)) g.is ∙ sym (put_append (f x) (flat_map f xs) o) ∙ sym (ap (λ z. put_text (flat_map f z) o) e)
-
-pub pieces_all : {X : Type 0} (f : X → List ℕ) (ys : List X) (o : Output) → ys ≡ [] → o ≡ put_text (flat_map f ys) o
-pieces_all f ys o e = (wrote_none o).is ∙ sym (ap (λ z. put_text (flat_map f z) o) e)
 
 -- a text laid over the front of other bytes
 abbrev over : List ℕ → List ℕ → List ℕ

@@ -22,8 +22,8 @@
 //
 // Text that does not fit is counted and not written, so a run with no bytes says how many are wanted.
 //
-// writer: text over lent bytes. lines: the lines of things and pages; all reading of stored paths is there. sink: who
-// takes the run's events. things: a run with it.
+// writer: text over lent bytes. lines: how it puts the lines of things and pages; all reading of stored paths is there.
+// sink: who takes the run's events. things: a run with it.
 #![tactic(auto)]
 
 mod lines;

@@ -1,108 +1,94 @@
-ghost use Rattle.std.specs.Prelude.{◌≡◌, ◌+◌, ◌≤◌, [], if◌then◌else◌};
+ghost use Rattle.std.specs.Prelude.{◌+◌, ◌≤◌, [], if◌then◌else◌};
 ghost use Rattle.std.specs.List.{flat_map};
-ghost use Rattle.path.specs.Points.{ahead, point_of};
-ghost use Rattle.path.specs.Stored.{points_in, rings_in, paths_in};
+ghost use Rattle.path.specs.Points.{point_of};
+ghost use Rattle.path.specs.Reading.{points_left, rings_left, paths_left};
 ghost use Rattle.whole_machine.specs.Abstraction.{paint_in};
 ghost use Rattle.listing.specs.Lines.{point_line, subpath_lines, path_lines, clip_lines, thing_lines, page_line, unshown_line};
-ghost use Rattle.listing.specs.Output.{output, Wrote};
-ghost use Rattle.listing.specs.Views.{output_of};
+ghost use Rattle.listing.specs.Views.{Puts};
 
 use super::writer::Writer;
-use path::cursor::{Corner, Cursor};
+use path::corner::Corner;
+use path::stored::{Clips, Points, Subpaths};
 
-fn put_point(out: &mut Writer<'_>, indent: usize, corner: Corner)
-    ensures after { Wrote (point_line indent (point_of corner)) (output_of out.old) (output_of out.new) }
-    ensures lent { out.new.bytes.ghost_name ≡ out.old.bytes.ghost_name }
-{
-    out.put_blanks(indent);
-    out.put_text(b"point ");
-    out.put_place(corner.x);
-    out.put_text(b" ");
-    out.put_place(corner.y);
-    out.put_text(b"\n");
-}
-
-fn put_points(out: &mut Writer<'_>, indent: usize, points: Cursor)
-    ensures after { Wrote (flat_map (point_line indent) (points_in (ahead points.entry))) (output_of out.old) (output_of out.new) }
-    ensures lent { out.new.bytes.ghost_name ≡ out.old.bytes.ghost_name }
-{
-    let mut rest = points;
-    while let Some(corner) = rest.next_point() {
-        put_point(out, indent, corner);
+impl<'b> Writer<'b> {
+    fn put_point(&mut self, indent: usize, corner: Corner)
+        ensures { Puts (point_line indent (point_of corner)) self.old self.new }
+    {
+        self.put_blanks(indent);
+        self.put_text(b"point ");
+        self.put_place(corner.x);
+        self.put_text(b" ");
+        self.put_place(corner.y);
+        self.put_text(b"\n");
     }
-}
 
-fn put_subpath(out: &mut Writer<'_>, indent: usize, points: Cursor)
-    requires { indent ≤ 4 }
-    ensures after { Wrote (subpath_lines indent (points_in (ahead points.entry))) (output_of out.old) (output_of out.new) }
-    ensures lent { out.new.bytes.ghost_name ≡ out.old.bytes.ghost_name }
-{
-    out.put_blanks(indent);
-    out.put_text(b"subpath\n");
-    put_points(out, indent + 2, points);
-}
-
-fn put_path(out: &mut Writer<'_>, indent: usize, path: Cursor)
-    requires { indent ≤ 4 }
-    ensures after { Wrote (path_lines indent (rings_in (ahead path.entry))) (output_of out.old) (output_of out.new) }
-    ensures lent { out.new.bytes.ghost_name ≡ out.old.bytes.ghost_name }
-{
-    let mut rest = path;
-    while let Some(points) = rest.next_subpath() {
-        put_subpath(out, indent, points);
+    fn put_points(&mut self, indent: usize, points: Points)
+        ensures { Puts (flat_map (point_line indent) (points_left points.entry)) self.old self.new }
+    {
+        for corner in points {
+            self.put_point(indent, corner);
+        }
     }
-}
 
-fn put_clip(out: &mut Writer<'_>, path: Cursor)
-    ensures after { Wrote (clip_lines (rings_in (ahead path.entry))) (output_of out.old) (output_of out.new) }
-    ensures lent { out.new.bytes.ghost_name ≡ out.old.bytes.ghost_name }
-{
-    out.put_text(b"  clip\n");
-    put_path(out, 4, path);
-}
-
-fn put_clips(out: &mut Writer<'_>, clips: Cursor)
-    ensures after { Wrote (flat_map clip_lines (paths_in (ahead clips.entry))) (output_of out.old) (output_of out.new) }
-    ensures lent { out.new.bytes.ghost_name ≡ out.old.bytes.ghost_name }
-{
-    let mut rest = clips;
-    while let Some(path) = rest.next_path() {
-        put_clip(out, path);
+    fn put_subpath(&mut self, indent: usize, points: Points)
+        requires { indent ≤ 4 }
+        ensures { Puts (subpath_lines indent (points_left points.entry)) self.old self.new }
+    {
+        self.put_blanks(indent);
+        self.put_text(b"subpath\n");
+        self.put_points(indent + 2, points);
     }
-}
 
-// Writes the lines of a thing that is painted where `at` bytes of text have come, and says how many have come then.
-pub fn write_thing(bytes: &mut [u8], at: usize, path: &[u64], clips: &[u64], grey: u8) -> usize
-    ensures { Wrote (thing_lines (paint_in path.now clips.now grey)) (output at bytes.old) (output result bytes.new) }
-{
-    let mut out = Writer { bytes, at };
-    out.put_text(b"thing grey ");
-    out.put_number(grey as u64);
-    out.put_text(b"\n");
-    put_path(&mut out, 2, Cursor::new(path));
-    put_clips(&mut out, Cursor::new(clips));
-    out.at
-}
-
-// The same for the line of a page, behind its things.
-pub fn write_page(bytes: &mut [u8], at: usize, page: u64) -> usize
-    ensures { Wrote (page_line page) (output at bytes.old) (output result bytes.new) }
-{
-    let mut out = Writer { bytes, at };
-    out.put_text(b"shown as page ");
-    out.put_number(page);
-    out.put_text(b"\n");
-    out.at
-}
-
-// The same for the mark behind things that no page shows, if there are any.
-pub fn write_mark(bytes: &mut [u8], at: usize, unshown: bool) -> usize
-    ensures { Wrote (if unshown then unshown_line else []) (output at bytes.old) (output result bytes.new) }
-{
-    if !unshown {
-        return at;
+    fn put_path(&mut self, indent: usize, path: Subpaths)
+        requires { indent ≤ 4 }
+        ensures { Puts (path_lines indent (rings_left path.entry)) self.old self.new }
+    {
+        for points in path {
+            self.put_subpath(indent, points);
+        }
     }
-    let mut out = Writer { bytes, at };
-    out.put_text(b"never printed\n");
-    out.at
+
+    fn put_clip(&mut self, path: Subpaths)
+        ensures { Puts (clip_lines (rings_left path.entry)) self.old self.new }
+    {
+        self.put_text(b"  clip\n");
+        self.put_path(4, path);
+    }
+
+    fn put_clips(&mut self, clips: Clips)
+        ensures { Puts (flat_map clip_lines (paths_left clips.entry)) self.old self.new }
+    {
+        for path in clips {
+            self.put_clip(path);
+        }
+    }
+
+    // The lines of a thing that is painted.
+    pub fn put_thing(&mut self, path: &[u64], clips: &[u64], grey: u8)
+        ensures { Puts (thing_lines (paint_in path.now clips.now grey)) self.old self.new }
+    {
+        self.put_text(b"thing grey ");
+        self.put_number(grey as u64);
+        self.put_text(b"\n");
+        self.put_path(2, Subpaths::new(path));
+        self.put_clips(Clips::new(clips));
+    }
+
+    // The line of a page, behind its things.
+    pub fn put_page(&mut self, page: u64)
+        ensures { Puts (page_line page) self.old self.new }
+    {
+        self.put_text(b"shown as page ");
+        self.put_number(page);
+        self.put_text(b"\n");
+    }
+
+    // The mark behind things that no page shows, if there are any.
+    pub fn put_mark(&mut self, unshown: bool)
+        ensures { Puts (if unshown then unshown_line else []) self.old self.new }
+    {
+        if unshown {
+            self.put_text(b"never printed\n");
+        }
+    }
 }

@@ -4,7 +4,6 @@ ghost use Rattle.machine.specs.Machine.{run, begin};
 ghost use Rattle.machine.specs.Laws.{state_of};
 ghost use Rattle.listing.specs.Lines.{listing_of};
 
-use super::lines::write_mark;
 use super::sink::ListingSink;
 use whole_run::job::run_job;
 
@@ -23,14 +22,8 @@ pub fn list_things(
     ensures path { path.new ≡ replicate (length path.old) 0 }
     ensures clips { clips.new ≡ replicate (length clips.old) 0 }
 {
-    let mut sink = ListingSink {
-        bytes,
-        at: 0,
-        pages: 0,
-        unshown: false,
-    };
+    let mut sink = ListingSink::new(bytes);
     run_job(tokens, path, clips, &mut sink, steps);
-    let at = sink.at;
-    let unshown = sink.unshown;
-    write_mark(sink.bytes, at, unshown) as u64
+    sink.mark();
+    sink.at as u64
 }

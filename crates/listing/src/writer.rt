@@ -1,7 +1,6 @@
-ghost use Rattle.std.specs.Prelude.{◌≡◌, [], ◌∷◌, decimal};
+ghost use Rattle.std.specs.Prelude.{[], ◌∷◌, decimal};
 ghost use Rattle.listing.specs.Lines.{blanks, place};
-ghost use Rattle.listing.specs.Output.{Wrote};
-ghost use Rattle.listing.specs.Views.{output_of};
+ghost use Rattle.listing.specs.Views.{Puts};
 
 // Text over lent bytes: `at` bytes have come, and those that fit stand at the front.
 #[derive(Drop)]
@@ -11,10 +10,10 @@ pub struct Writer<'b> {
 }
 
 impl<'b> Writer<'b> {
-    pub fn put(&mut self, byte: u8)
-        ensures after { Wrote (byte ∷ []) (output_of self.old) (output_of self.new) }
-        ensures lent { self.new.bytes.ghost_name ≡ self.old.bytes.ghost_name }
+    fn put(&mut self, byte: u8)
+        ensures { Puts (byte ∷ []) self.old self.new }
     {
+        // not `get_mut`: of an element that a field lends that way, the proof does not learn what stands there after
         if self.at < self.bytes.len() {
             self.bytes[self.at] = byte;
         }
@@ -22,8 +21,7 @@ impl<'b> Writer<'b> {
     }
 
     pub fn put_text(&mut self, text: &[u8])
-        ensures after { Wrote text.now (output_of self.old) (output_of self.new) }
-        ensures lent { self.new.bytes.ghost_name ≡ self.old.bytes.ghost_name }
+        ensures { Puts text.now self.old self.new }
     {
         for b in text {
             self.put(*b);
@@ -31,17 +29,15 @@ impl<'b> Writer<'b> {
     }
 
     pub fn put_blanks(&mut self, n: usize)
-        ensures after { Wrote (blanks n) (output_of self.old) (output_of self.new) }
-        ensures lent { self.new.bytes.ghost_name ≡ self.old.bytes.ghost_name }
+        ensures { Puts (blanks n) self.old self.new }
     {
-        for i in 0..n {
+        for _ in 0..n {
             self.put(b' ');
         }
     }
 
     pub fn put_number(&mut self, n: u64)
-        ensures after { Wrote (decimal n) (output_of self.old) (output_of self.new) }
-        ensures lent { self.new.bytes.ghost_name ≡ self.old.bytes.ghost_name }
+        ensures { Puts (decimal n) self.old self.new }
     {
         if n >= 10 {
             self.put_number(n / 10);
@@ -51,8 +47,7 @@ impl<'b> Writer<'b> {
 
     // A distance: whole dots, and sixteenths where there are any.
     pub fn put_place(&mut self, n: u32)
-        ensures after { Wrote (place n) (output_of self.old) (output_of self.new) }
-        ensures lent { self.new.bytes.ghost_name ≡ self.old.bytes.ghost_name }
+        ensures { Puts (place n) self.old self.new }
     {
         self.put_number(n as u64 / 16);
         if n % 16 != 0 {

@@ -24,12 +24,7 @@ shown as page 1
 
     // A thing and its page, and how much text they come to.
     fn listed(bytes: &mut [u8]) -> usize {
-        let mut sink = ListingSink {
-            bytes,
-            at: 0,
-            pages: 0,
-            unshown: false,
-        };
+        let mut sink = ListingSink::new(bytes);
         let path = [2, 16, 24, 16777215, 0];
         let clips = [3, 1, 8, 5, 5, 2, 0, 0, 160, 16];
         sink.painted(&path, extent_of(&path), &clips, 7);

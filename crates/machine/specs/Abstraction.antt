@@ -1,12 +1,12 @@
 -- What the code's machine, its path and its events mean to the written machine. The code holds nothing that was painted or shown before: a state is one for any such past. Cited by the contracts of this crate and of those who drive a machine. Assumes nothing: these are definitions.
-use Rattle.std.specs.Prelude.{◌≡◌, ℕ, ◌+◌, ◌*◌, ◌^◌, ◌<◌, Bool, true, false, List, [], ◌∷◌, ◌++◌, map, length, take, Some, None, Ok, Err, Option, Result, nat_le, slice_index_or}
+use Rattle.std.specs.Prelude.{◌≡◌, ℕ, ◌+◌, ◌*◌, Bool, true, false, List, [], ◌∷◌, ◌++◌, map, length, take, Some, None, Ok, Err, Option, Result, nat_le, slice_index_or}
 use Rattle.std.specs.Borrow.{Bor}
 use Rattle.stack.specs.Contents.{top_down}
 use Rattle.tokens.specs.Token.{Tokens}
 use Rattle.tokens.specs.Stored.{decode, operator_of}
 use Rattle.path.specs.declared.builder.Path.{Path}
 use Rattle.path.specs.Path.{Point, Ring, Paint, points}
-use Rattle.path.specs.declared.cursor.Corner.{Corner}
+use Rattle.path.specs.declared.corner.Corner.{Corner}
 use Rattle.path.specs.Points.{point, point_of}
 use Rattle.path.specs.Stored.{rings_in}
 use Rattle.path.specs.Building.{rings_of, ring_of}
@@ -159,7 +159,7 @@ place_of g a b = point (g.left + a * g.scale) (g.top + b * g.scale)
 
 abbrev pub Placed : Option Corner → Point → Type 0
 Placed None q = near_enough q ≡ false
-Placed (Some c) q = (near_enough q ≡ true) × (point_of c ≡ q) × (c.x < 2 ^ 24) × (c.y < 2 ^ 24)
+Placed (Some c) q = (near_enough q ≡ true) × (point_of c ≡ q)
 
 -- the graphics state that a job begins with
 abbrev pub initial : Manner

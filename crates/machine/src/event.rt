@@ -1,7 +1,8 @@
 ghost use Rattle.std.specs.Prelude.{◌≡◌};
-ghost use Rattle.machine.specs.Numbers.{fault_number};
+ghost use Rattle.machine.specs.Numbers.{fault_number, fault_of};
 ghost use Rattle.machine.specs.declared.event.Fault.TheVariants.{LimitExceeded};
 
+use path::builder::PathError;
 use stack::Full;
 use tokens::Operator;
 
@@ -32,6 +33,18 @@ impl From<Full> for Fault {
 
     fn from(_e: Full) -> Fault {
         Fault::LimitExceeded
+    }
+}
+
+// and so does a path with 1,024 points
+impl From<PathError> for Fault {
+    ghost from_gives = { λ error fault. fault ≡ fault_of error };
+
+    fn from(error: PathError) -> Fault {
+        match error {
+            PathError::NoSubpath => Fault::NoCurrentPoint,
+            PathError::TooManyPoints => Fault::LimitExceeded,
+        }
     }
 }
 

@@ -1,7 +1,7 @@
 ghost use Rattle.std.specs.Prelude.{◌≡◌, ◌+◌, ◌*◌};
 ghost use Rattle.machine.specs.Abstraction.{place_of, Placed};
 
-use path::cursor::Corner;
+use path::corner::Corner;
 
 // Scale and corner in sixteenths of a dot. clips is how many words of clips are in force, weight how many paths and
 // points these have, so that the limit is one comparison.

@@ -19,9 +19,7 @@ pub(crate) fn move_to<'s, 'a, S: Clipping>(
     let Some(corner) = m.place(a, b) else {
         return Err(Fault::OutOfRange);
     };
-    if !path.begin_subpath(corner.x, corner.y) {
-        return Err(Fault::LimitExceeded);
-    }
+    path.begin_subpath(corner)?;
     m.drop_operands(2);
     Ok(Event::On)
 }
@@ -40,9 +38,7 @@ pub(crate) fn line_to<'s, 'a, S: Clipping>(
     let Some(corner) = m.place(a, b) else {
         return Err(Fault::OutOfRange);
     };
-    if !path.append_point(corner.x, corner.y) {
-        return Err(Fault::LimitExceeded);
-    }
+    path.append_point(corner)?;
     m.drop_operands(2);
     Ok(Event::On)
 }

@@ -5,8 +5,10 @@ use Rattle.path.specs.Path.{Point, points, finished}
 use Rattle.path.specs.Points.{point}
 use Rattle.path.specs.Stored.{points_in, rings_in, complete}
 use Rattle.path.specs.Building.{ring_of, points_of}
-use Rattle.path.specs.Extent.{path_top, path_bottom}
+use Rattle.path.specs.Extent.{path_top, path_bottom, ExtentOf}
+use Rattle.path.specs.declared.builder.Front.{Front}
 use Rattle.path.specs.declared.builder.Path.{Path}
+use Rattle.path.specs.declared.extent.Extent.{Extent}
 use Rattle.path.proofs.ExtentLaws.{reach, reach_begun, reach_added}
 use Rattle.path.proofs.StoredLaws.{complete_none, complete_one_more, rings_push, rings_none, points_none, points_push, length-points, total_push, total_none, finished_none, finished_some}
 
@@ -24,38 +26,38 @@ Laid ws start last used total =
     × ((total ≤ 1024) × ((used ≤ 3 * total) × ((start ≤ used) × ((last ≡ 0 → used ≡ 0) × ((0 < last → used ≡ start + 1 + 2 * last)
     × ((0 < last → get_or ws start 0 ≡ last) × ((points (rings_in (take start ws)) + last ≡ total) × ((complete (take start ws) ≡ true) × Unit {0}))))))))
 
-pub laid_of : (p : Path) → Laid p.words.now p.start p.last p.used p.total
+pub laid_of : (p : Path) → Laid p.words.now p.start p.last p.built.used p.total
 laid_of p = (p.room, (p.few, (p.short, (p.begins, (p.none, (p.ends, (p.counts, (p.adds, (p.whole, tt)))))))))
 
--- between which levels a path of so many words lies
-abbrev pub Spans : List ℕ → ℕ → ℕ → ℕ → Type 0
-Spans ws n top bottom = (top ≡ path_top 16777216 (rings_in (take n ws))) × ((bottom ≡ path_bottom 0 (rings_in (take n ws))) × Unit {0})
+-- between which levels the path at the front of the words lies
+abbrev pub Spans : List ℕ → Front → Type 0
+Spans ws f = ExtentOf f.extent (rings_in (take f.used ws))
 
-pub spans_of : (p : Path) → Spans p.words.now p.used p.extent.top p.extent.bottom
-spans_of p = (p.top, (p.bottom, tt))
+pub spans_of : (p : Path) → Spans p.words.now p.built
+spans_of p = record { top = p.top; bottom = p.bottom }
 
-pub spans_before : (p : Path) → Spans p.words.now p.before p.reached.top p.reached.bottom
-spans_before p = (p.over, (p.under, tt))
+pub spans_before : (p : Path) → Spans p.words.now p.cleared
+spans_before p = record { top = p.over; bottom = p.under }
 
 -- the whole invariant: how the path lies, its extent, and that of the one before it
-pub kept : (ws : List ℕ) (start last used total before top bottom over under : ℕ) → Laid ws start last used total → Spans ws used top bottom → Spans ws before over under → (0 < used → before ≡ 0) →
+pub kept : (ws : List ℕ) (start last total : ℕ) (built cleared : Front) → Laid ws start last built.used total → Spans ws built → Spans ws cleared → (0 < built.used → cleared.used ≡ 0) →
     record {
       room : 3072 ≤ length ws;
       few : total ≤ 1024;
-      short : used ≤ 3 * total;
-      begins : start ≤ used;
-      none : last ≡ 0 → used ≡ 0;
-      ends : 0 < last → used ≡ start + 1 + 2 * last;
+      short : built.used ≤ 3 * total;
+      begins : start ≤ built.used;
+      none : last ≡ 0 → built.used ≡ 0;
+      ends : 0 < last → built.used ≡ start + 1 + 2 * last;
       counts : 0 < last → get_or ws start 0 ≡ last;
       adds : points (rings_in (take start ws)) + last ≡ total;
       whole : complete (take start ws) ≡ true;
-      top : top ≡ path_top 16777216 (rings_in (take used ws));
-      bottom : bottom ≡ path_bottom 0 (rings_in (take used ws));
-      over : over ≡ path_top 16777216 (rings_in (take before ws));
-      under : under ≡ path_bottom 0 (rings_in (take before ws));
-      begun : 0 < used → before ≡ 0;
+      top : built.extent.top ≡ path_top 16777216 (rings_in (take built.used ws));
+      bottom : built.extent.bottom ≡ path_bottom 0 (rings_in (take built.used ws));
+      over : cleared.extent.top ≡ path_top 16777216 (rings_in (take cleared.used ws));
+      under : cleared.extent.bottom ≡ path_bottom 0 (rings_in (take cleared.used ws));
+      begun : 0 < built.used → cleared.used ≡ 0;
     }
-kept ws start last used total before top bottom over under l s b h =
+kept ws start last total built cleared l s b h =
     record {
       room = l.0;
       few = l.1.0;
@@ -66,10 +68,10 @@ kept ws start last used total before top bottom over under l s b h =
       counts = l.1.1.1.1.1.1.0;
       adds = l.1.1.1.1.1.1.1.0;
       whole = l.1.1.1.1.1.1.1.1.0;
-      top = s.0;
-      bottom = s.1.0;
-      over = b.0;
-      under = b.1.0;
+      top = s.top;
+      bottom = s.bottom;
+      over = b.top;
+      under = b.bottom;
       begun = h;
     }
 
@@ -252,10 +254,10 @@ laid_added ws start last used total x y some few l =
     )
 
 -- the empty path
-pub laid_none : (ws : List ℕ) → 3072 ≤ length ws → Laid ws 0 0 0 0
-laid_none ws h =
+pub laid_none : (ws : List ℕ) (used : ℕ) → used ≡ 0 → 3072 ≤ length ws → Laid ws 0 0 used 0
+laid_none ws used e h =
     let t : points (rings_in []) ≡ 0 = ap points rings_none ∙ total_none in
-    (h, (omega arith, (omega arith, (omega arith, (λ z. refl, (λ some. omega arith, (λ some. omega arith, (omega arith, (complete_none, tt)))))))))
+    (h, (omega arith, (omega arith, (omega arith, (λ z. e, (λ some. omega arith, (λ some. omega arith, (omega arith, (complete_none, tt)))))))))
 
 -- the words in use with a subpath begun, and with a point added
 all_begun : (ws : List ℕ) (start last used total x y : ℕ) → Laid ws start last used total → total < 1024 → x < 16777216 → y < 16777216 →
@@ -281,31 +283,35 @@ all_added ws start last used total x y l some few hx hy =
 reach_spare : (f : ℕ → Point → ℕ) (t m : ℕ) (ws : List ℕ) (used i v : ℕ) → used ≤ i → m ≡ reach f t (rings_in (take used ws)) → m ≡ reach f t (rings_in (take used (set ws i v)))
 reach_spare f t m ws used i v past e = e ∙ ap (λ z. reach f t (rings_in z)) (sym (take-set-le used ws i v past))
 
-pub spans_spare : (ws : List ℕ) (used top bottom i v : ℕ) → used ≤ i → Spans ws used top bottom → Spans (set ws i v) used top bottom
-spans_spare ws used top bottom i v past s = (reach_spare lower 16777216 top ws used i v past s.0, (reach_spare higher 0 bottom ws used i v past s.1.0, tt))
+pub spans_spare : (ws : List ℕ) (f : Front) (i v : ℕ) → f.used ≤ i → Spans ws f → Spans (set ws i v) f
+spans_spare ws f i v past s = record { top = reach_spare lower 16777216 f.extent.top ws f.used i v past s.top; bottom = reach_spare higher 0 f.extent.bottom ws f.used i v past s.bottom }
 
-pub spans_begun : (ws : List ℕ) (start last used total x y top bottom up down : ℕ) → Laid ws start last used total → total < 1024 → x < 16777216 → y < 16777216 →
-    Spans ws used top bottom → up ≡ min top y → down ≡ max bottom y → Spans (begun ws used x y) (used + 3) up down
-spans_begun ws start last used total x y top bottom up down l few hx hy s eu ed = (step lower 16777216 up top eu s.0, (step higher 0 down bottom ed s.1.0, tt))
+pub spans_begun : (ws : List ℕ) (start last total x y : ℕ) (f : Front) (e : Extent) → Laid ws start last f.used total → total < 1024 → x < 16777216 → y < 16777216 →
+    Spans ws f → e.top ≡ min f.extent.top y → e.bottom ≡ max f.extent.bottom y → Spans (begun ws f.used x y) (record { used = f.used + 3; extent = e })
+spans_begun ws start last total x y f e l few hx hy s eu ed = record { top = step lower 16777216 e.top f.extent.top eu s.top; bottom = step higher 0 e.bottom f.extent.bottom ed s.bottom }
   where
-    step : (f : ℕ → Point → ℕ) (t n m : ℕ) → n ≡ f m (point x y) → m ≡ reach f t (rings_in (take used ws)) → n ≡ reach f t (rings_in (take (used + 3) (begun ws used x y)))
-    step f t n m e h =
-        e ∙ ap (λ k. f k (point x y)) h ∙ sym (reach_begun f t (rings_in (take used ws)) (point x y)) ∙ ap (reach f t) (sym (all_begun ws start last used total x y l few hx hy))
+    step : (g : ℕ → Point → ℕ) (t n m : ℕ) → n ≡ g m (point x y) → m ≡ reach g t (rings_in (take f.used ws)) → n ≡ reach g t (rings_in (take (f.used + 3) (begun ws f.used x y)))
+    step g t n m is h =
+        is ∙ ap (λ k. g k (point x y)) h ∙ sym (reach_begun g t (rings_in (take f.used ws)) (point x y)) ∙ ap (reach g t) (sym (all_begun ws start last f.used total x y l few hx hy))
 
-pub spans_added : (ws : List ℕ) (start last used total x y top bottom up down : ℕ) → Laid ws start last used total → 0 < last → total < 1024 → x < 16777216 → y < 16777216 →
-    Spans ws used top bottom → up ≡ min top y → down ≡ max bottom y → Spans (added ws start last used x y) (used + 2) up down
-spans_added ws start last used total x y top bottom up down l some few hx hy s eu ed = (step lower 16777216 up top eu s.0, (step higher 0 down bottom ed s.1.0, tt))
+pub spans_added : (ws : List ℕ) (start last total x y : ℕ) (f : Front) (e : Extent) → Laid ws start last f.used total → 0 < last → total < 1024 → x < 16777216 → y < 16777216 →
+    Spans ws f → e.top ≡ min f.extent.top y → e.bottom ≡ max f.extent.bottom y → Spans (added ws start last f.used x y) (record { used = f.used + 2; extent = e })
+spans_added ws start last total x y f e l some few hx hy s eu ed = record { top = step lower 16777216 e.top f.extent.top eu s.top; bottom = step higher 0 e.bottom f.extent.bottom ed s.bottom }
   where
-    step : (f : ℕ → Point → ℕ) (t n m : ℕ) → n ≡ f m (point x y) → m ≡ reach f t (rings_in (take used ws)) → n ≡ reach f t (rings_in (take (used + 2) (added ws start last used x y)))
-    step f t n m e h =
-        e ∙ ap (λ k. f k (point x y)) (h ∙ ap (reach f t) (all_open ws start last used total l some)) ∙ sym (reach_added f t (rings_in (take start ws)) (points_in (body ws start last)) (point x y)) ∙ ap (reach f t) (sym (all_added ws start last used total x y l some few hx hy))
+    step : (g : ℕ → Point → ℕ) (t n m : ℕ) → n ≡ g m (point x y) → m ≡ reach g t (rings_in (take f.used ws)) → n ≡ reach g t (rings_in (take (f.used + 2) (added ws start last f.used x y)))
+    step g t n m is h =
+        is ∙ ap (λ k. g k (point x y)) (h ∙ ap (reach g t) (all_open ws start last f.used total l some)) ∙ sym (reach_added g t (rings_in (take start ws)) (points_in (body ws start last)) (point x y)) ∙ ap (reach g t) (sym (all_added ws start last f.used total x y l some few hx hy))
 
-pub spans_none : (ws : List ℕ) (top bottom : ℕ) → top ≡ 16777216 → bottom ≡ 0 → Spans ws 0 top bottom
-spans_none ws top bottom eu ed = (eu ∙ sym (ap (path_top 16777216) rings_none), (ed ∙ sym (ap (path_bottom 0) rings_none), tt))
+pub spans_none : (ws : List ℕ) (f : Front) → f.used ≡ 0 → ExtentOf f.extent [] → Spans ws f
+spans_none ws f u e =
+    record {
+      top = e.top ∙ sym (ap (λ n. path_top 16777216 (rings_in (take n ws))) u ∙ ap (path_top 16777216) rings_none);
+      bottom = e.bottom ∙ sym (ap (λ n. path_bottom 0 (rings_in (take n ws))) u ∙ ap (path_bottom 0) rings_none);
+    }
 
 -- how many points there are
 pub total_is : (p : Path) → p.total ≡ points_of p
-total_is p = let n = length-ring p.words.now p.start p.last p.used p.total (laid_of p) in let a = p.adds in omega arith
+total_is p = let n = length-ring p.words.now p.start p.last p.built.used p.total (laid_of p) in let a = p.adds in omega arith
 
 pub last_is : (p : Path) → p.last ≡ length (ring_of p)
-last_is p = sym (length-ring p.words.now p.start p.last p.used p.total (laid_of p))
+last_is p = sym (length-ring p.words.now p.start p.last p.built.used p.total (laid_of p))

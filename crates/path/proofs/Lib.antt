@@ -1,3 +1,4 @@
 pub mod StoredLaws
 mod BuildLaws
 pub mod ExtentLaws
+pub mod Refusals

@@ -1,5 +1,5 @@
 -- What stored words decode to, piece by piece and point by point: fuel is mentioned here and nowhere else.
-use Rattle.std.proofs.Common.{◌≡◌, ℕ, zero, suc, ◌+◌, ◌-◌, ◌*◌, ◌%◌, ◌<◌, ◌≤◌, min, true, leb, List, [], ◌∷◌, ◌++◌, map, length, get_or, take, drop, sym, refl, ap, ◌∙◌, inl, inr, suc-mul, zero-mul, mul-suc, arith, length-append, length-drop, take_all}
+use Rattle.std.proofs.Common.{◌≡◌, ℕ, zero, suc, ◌+◌, ◌*◌, ◌%◌, ◌<◌, ◌≤◌, min, true, leb, List, [], ◌∷◌, ◌++◌, map, length, get_or, take, drop, sym, refl, ap, ◌∙◌, inl, inr, suc-mul, zero-mul, mul-suc, arith, length-append, length-drop, take_all}
 use lib.Seq.{take-nil, drop-nil, take-append-le, drop-append-le}
 use Rattle.std.proofs.lemmas.List.{drop_all}
 use Rattle.std.proofs.lemmas.Bool.{cases_lt, leb-true, le-leb, and_parts, and_from, false≢true}
@@ -45,7 +45,7 @@ pub paths_more : (c : ℕ) (ws : List ℕ) → paths_in (c ∷ ws) ≡ rings_in 
 unfolding paths_in
 paths_more c ws = ap (map rings_in) (pieces_more 1 c ws)
 
--- the same for a piece and a rest that a cursor has found
+-- the same for a piece and a rest that an iterator has found
 pub rings_split : (ws piece rest : List ℕ) → pieces 2 ws ≡ piece ∷ pieces 2 rest → rings_in ws ≡ points_in piece ∷ rings_in rest
 unfolding rings_in
 rings_split ws piece rest e = ap (map points_in) e
@@ -91,15 +91,12 @@ cut_twice (suc k) w n =
       | inr le ↦ let e : min w n ≡ w = omega arith in ap (λ m. min (suc k * m) n) e
     ]
 
-pub pieces_cut : (size end : ℕ) (ws : List ℕ) → 0 < length ws → min (size * get_or ws 0 0) (length ws - 1) ≡ end →
-    pieces size ws ≡ take end (drop 1 ws) ∷ pieces size (drop (1 + end) ws)
-pieces_cut size end [] some e = let no : ⊥ = omega arith in absurd no
-pieces_cut size end (c ∷ ws) some e =
-    let same : min (size * c) (length ws) ≡ min end (length ws) = omega arith in
-    let n : 1 + end ≡ suc end = omega arith in
-    let one : drop (1 + end) (c ∷ ws) ≡ drop end ws = ap (λ k. drop k (c ∷ ws)) n in
-    pieces_more size c ws ∙ ap (λ p. p ∷ pieces size (drop (size * c) ws)) (take-cut (size * c) end ws same)
-    ∙ ap (λ r. take end ws ∷ pieces size r) (drop-cut (size * c) end ws same ∙ sym one)
+pub pieces_cut : (size count end : ℕ) (ws : List ℕ) → min (size * count) (length ws) ≡ end → pieces size (count ∷ ws) ≡ take end ws ∷ pieces size (drop end ws)
+pieces_cut size count end ws e =
+    let same : min (size * count) (length ws) ≡ min end (length ws) = omega arith in
+    pieces_more size count ws
+    ∙ ap (λ p. p ∷ pieces size (drop (size * count) ws)) (take-cut (size * count) end ws same)
+    ∙ ap (λ r. take end ws ∷ pieces size r) (drop-cut (size * count) end ws same)
 
 complete_more : (n m : ℕ) (ws : List ℕ) → n ≤ m → complete_by n ws ≡ true → complete_by m ws ≡ true
 unfolding complete_by

@@ -1,4 +1,4 @@
--- How paths and lists of clips stand in words, for any words whatsoever. Cited by the cursor, by what builds a path, and by all who read one. Assumes nothing: these are definitions.
+-- How paths and lists of clips stand in words, for any words whatsoever. Cited by the iterators, by what builds a path, and by all who read one. Assumes nothing: these are definitions.
 use Rattle.std.specs.Prelude.{ℕ, zero, suc, ◌*◌, ◌%◌, Bool, true, false, ◌&&◌, List, [], ◌∷◌, map, length, take, drop, nat_le}
 use Rattle.path.specs.Path.{Ring}
 

@@ -1,12 +1,13 @@
 ghost use Rattle.std.specs.Prelude.{◌≡◌, min, max, []};
-ghost use Rattle.path.specs.Points.{ahead};
-ghost use Rattle.path.specs.Stored.{points_in, rings_in};
+ghost use Rattle.path.specs.Reading.{points_left};
+ghost use Rattle.path.specs.Stored.{rings_in};
 ghost use Rattle.path.specs.Extent.{ring_top, ring_bottom, ExtentOf};
 
-use super::cursor::Cursor;
+use super::corner::LIMIT;
+use super::stored::{Points, Subpaths};
 
 // The levels of a path's points, in sixteenths of a dot: no edge crosses one above `top`, or one at or below `bottom`.
-#[derive(Clone, Copy)]
+#[derive(Clone, Copy, Debug, PartialEq, Eq)]
 pub struct Extent {
     pub top: u32,
     pub bottom: u32,
@@ -18,7 +19,7 @@ impl Extent {
         ensures { ExtentOf result [] }
     {
         Extent {
-            top: 16777216,
+            top: LIMIT,
             bottom: 0,
         }
     }
@@ -36,26 +37,13 @@ impl Extent {
 }
 
 // The extent with a subpath's points.
-fn with_subpath(extent: Extent, points: Cursor) -> Extent
-    ensures top { result.top ≡ ring_top extent.top (points_in (ahead points.entry)) }
-    ensures bottom { result.bottom ≡ ring_bottom extent.bottom (points_in (ahead points.entry)) }
+fn with_subpath(extent: Extent, points: Points) -> Extent
+    ensures top { result.top ≡ ring_top extent.top (points_left points.entry) }
+    ensures bottom { result.bottom ≡ ring_bottom extent.bottom (points_left points.entry) }
 {
     let mut reached = extent;
-    let mut rest = points;
-    while let Some(corner) = rest.next_point() {
+    for corner in points {
         reached = reached.reaching(corner.y);
-    }
-    reached
-}
-
-// The extent of the path that a cursor has ahead.
-pub fn extent_ahead(path: Cursor) -> Extent
-    ensures { ExtentOf result (rings_in (ahead path.entry)) }
-{
-    let mut reached = Extent::empty();
-    let mut rest = path;
-    while let Some(points) = rest.next_subpath() {
-        reached = with_subpath(reached, points);
     }
     reached
 }
@@ -64,5 +52,9 @@ pub fn extent_ahead(path: Cursor) -> Extent
 pub fn extent_of(path: &[u64]) -> Extent
     ensures { ExtentOf result (rings_in path.now) }
 {
-    extent_ahead(Cursor::new(path))
+    let mut reached = Extent::empty();
+    for points in Subpaths::new(path) {
+        reached = with_subpath(reached, points);
+    }
+    reached
 }

@@ -9,6 +9,7 @@ ghost use Rattle.raster.specs.Thing.{thing};
 use super::coverage::paint_row;
 use super::levels::{Levels, levels_of, narrowed};
 use path::extent::Extent;
+use path::stored::Subpaths;
 
 // Rows of a band, counted from its first: from `start` up to before `end`.
 #[derive(Clone, Copy)]
@@ -107,7 +108,7 @@ pub fn paint_band(
     requires near { first + count ≤ 65536 }
     ensures { PaintedBand bytes.old bytes.new width first count (thing path.now clips.now grey) }
 {
-    let levels = narrowed(levels_of(path), clips);
+    let levels = narrowed(levels_of(Subpaths::new(path)), clips);
     let start = rows_above(levels.top, first).min(count);
     let end = rows_above(levels.bottom, first).min(count);
     if start < end {

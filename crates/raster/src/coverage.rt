@@ -1,17 +1,18 @@
 ghost use Rattle.std.specs.Prelude.{◌≡◌, ℕ, ◌+◌, ◌*◌, ◌^◌, ◌<◌, ◌≤◌, ◌&&◌, length, if◌then◌else◌, slice_index};
 ghost use Rattle.bits.specs.Row.{bit_at, Within, Empty};
+ghost use Rattle.path.specs.Reading.{rings_left};
 ghost use Rattle.path.specs.Stored.{rings_in, paths_in};
 ghost use Rattle.raster.specs.Coverage.{in_path, in_all};
 
 use super::crossing::cross_path;
 use bits::painting::paint;
 use bits::row::{Span, clear, keep_common, nothing, sweep};
-use path::cursor::first_path;
+use path::stored::{Clips, Subpaths};
 
 // Sets the bits of the dots from `left` on that the path covers at the level.
-fn cover(bits: &mut [u64], path: &[u64], level: u32, left: usize) -> Span
+fn cover(bits: &mut [u64], path: Subpaths, level: u32, left: usize) -> Span
     requires empty { Empty bits.old }
-    ensures value { (x : ℕ) → left ≤ x → x < 64 * length bits.old → bit_at bits.new x ≡ in_path (rings_in path.now) (16 * x + 8) level }
+    ensures value { (x : ℕ) → left ≤ x → x < 64 * length bits.old → bit_at bits.new x ≡ in_path (rings_left path.entry) (16 * x + 8) level }
     ensures within { Within bits.new result.low result.high }
 {
     let none = nothing(bits);
@@ -29,12 +30,10 @@ fn clip(bits: &mut [u64], mask: &mut [u64], clips: &[u64], level: u32, span: Spa
     ensures empty { Empty mask.new }
 {
     let left = 64 * span.low;
-    let mut rest = clips;
-    while let Some((path, others)) = first_path(rest) {
+    for path in Clips::new(clips) {
         let covered = cover(mask, path, level, left);
         keep_common(bits, mask, span);
         clear(mask, covered);
-        rest = others;
     }
 }
 
@@ -54,7 +53,7 @@ pub fn paint_row(
     ensures bits { Empty bits.new }
     ensures mask { Empty mask.new }
 {
-    let covered = cover(bits, path, level, 0);
+    let covered = cover(bits, Subpaths::new(path), level, 0);
     let high = covered.high;
     if covered.low < high {
         clip(bits, &mut mask[0..high], clips, level, covered);

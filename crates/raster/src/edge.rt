@@ -1,13 +1,12 @@
-ghost use Rattle.std.specs.Prelude.{◌≡◌, ℕ, ◌+◌, ◌-◌, ◌*◌, ◌^◌, ◌<◌, ◌≤◌, false, MatchOption, nat_le};
+ghost use Rattle.std.specs.Prelude.{◌≡◌, ℕ, ◌+◌, ◌-◌, ◌*◌, ◌<◌, ◌≤◌, false, MatchOption, nat_le};
 ghost use Rattle.path.specs.Points.{point_of};
 ghost use Rattle.raster.specs.Coverage.{crosses};
 
-use path::cursor::Corner;
+use path::corner::Corner;
 
 // The first dot whose middle is where the edge down from `upper` to `lower` crosses the level, or right of that.
 fn first_dot(upper: Corner, lower: Corner, level: u32) -> u64
-    requires spans { (upper.y ≤ level) × (level < lower.y) }
-    requires near { (upper.x < 2 ^ 24) × (lower.x < 2 ^ 24) × (lower.y < 2 ^ 24) }
+    requires { (upper.y ≤ level) × (level < lower.y) }
     ensures { (x : ℕ) → nat_le (upper.x * (lower.y - level) + lower.x * (level - upper.y)) ((16 * x + 8) * (lower.y - upper.y)) ≡ nat_le result x }
 {
     let height = (lower.y - upper.y) as u64;
@@ -19,7 +18,6 @@ fn first_dot(upper: Corner, lower: Corner, level: u32) -> u64
 
 // The first dot that lies past the crossing of the edge with the level, if they cross.
 pub fn crossed(from: Corner, to: Corner, level: u32) -> Option<u64>
-    requires near { (from.x < 2 ^ 24) × (from.y < 2 ^ 24) × (to.x < 2 ^ 24) × (to.y < 2 ^ 24) }
     ensures { MatchOption result ((x : ℕ) → crosses (point_of from) (point_of to) (16 * x + 8) level ≡ false) (λ c. (x : ℕ) → crosses (point_of from) (point_of to) (16 * x + 8) level ≡ nat_le c x) }
 {
     if from.y <= level {

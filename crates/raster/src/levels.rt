@@ -1,8 +1,9 @@
 ghost use Rattle.std.specs.Prelude.{◌≡◌};
-ghost use Rattle.path.specs.Stored.{points_in, rings_in, paths_in};
+ghost use Rattle.path.specs.Reading.{points_left, rings_left};
+ghost use Rattle.path.specs.Stored.{paths_in};
 ghost use Rattle.raster.specs.Levels.{ring_top, ring_bottom, path_top, path_bottom, clips_top, clips_bottom};
 
-use path::cursor::{first_path, first_subpath, next_point};
+use path::stored::{Clips, Points, Subpaths};
 
 // The levels from `top` up to before `bottom`: no edge crosses any other.
 #[derive(Clone, Copy)]
@@ -12,34 +13,30 @@ pub struct Levels {
 }
 
 // The levels, and those of a subpath's points.
-fn with_ring(levels: Levels, points: &[u64]) -> Levels
-    ensures top { result.top ≡ ring_top levels.top (points_in points.now) }
-    ensures bottom { result.bottom ≡ ring_bottom levels.bottom (points_in points.now) }
+fn with_ring(levels: Levels, points: Points) -> Levels
+    ensures top { result.top ≡ ring_top levels.top (points_left points.entry) }
+    ensures bottom { result.bottom ≡ ring_bottom levels.bottom (points_left points.entry) }
 {
     let mut top = levels.top;
     let mut bottom = levels.bottom;
-    let mut rest = points;
-    while let Some((corner, tail)) = next_point(rest) {
+    for corner in points {
         top = top.min(corner.y);
         bottom = bottom.max(corner.y);
-        rest = tail;
     }
     Levels { top, bottom }
 }
 
 // The levels that a path reaches.
-pub fn levels_of(path: &[u64]) -> Levels
-    ensures top { result.top ≡ path_top 16777216 (rings_in path.now) }
-    ensures bottom { result.bottom ≡ path_bottom 0 (rings_in path.now) }
+pub fn levels_of(path: Subpaths) -> Levels
+    ensures top { result.top ≡ path_top 16777216 (rings_left path.entry) }
+    ensures bottom { result.bottom ≡ path_bottom 0 (rings_left path.entry) }
 {
     let mut levels = Levels {
         top: 16777216,
         bottom: 0,
     };
-    let mut rest = path;
-    while let Some((points, others)) = first_subpath(rest) {
+    for points in path {
         levels = with_ring(levels, points);
-        rest = others;
     }
     levels
 }
@@ -51,12 +48,10 @@ pub fn narrowed(levels: Levels, clips: &[u64]) -> Levels
 {
     let mut top = levels.top;
     let mut bottom = levels.bottom;
-    let mut rest = clips;
-    while let Some((path, others)) = first_path(rest) {
+    for path in Clips::new(clips) {
         let reached = levels_of(path);
         top = top.max(reached.top);
         bottom = bottom.min(reached.bottom);
-        rest = others;
     }
     Levels { top, bottom }
 }

@@ -7,7 +7,8 @@
 
 #[cfg(test)]
 mod tests {
-    use path::builder::Path;
+    use path::builder::{Path, PathError};
+    use path::corner::Corner;
     use path::extent::Extent;
     use raster::band::{paint_band, paint_within};
 
@@ -276,21 +277,34 @@ mod tests {
         assert!(rt; bytes == [7, 255, 255, 255]);
     }
 
+    fn corner(x: u8, y: u8) -> Corner {
+        Corner {
+            x: x as u32,
+            y: y as u32,
+        }
+    }
+
+    fn add_ring(
+        path: &mut Path<'_>,
+        first: (u8, u8),
+        others: &[(u8, u8)],
+    ) -> Result<(), PathError> {
+        path.begin_subpath(corner(first.0, first.1))?;
+        for (x, y) in others {
+            path.append_point(corner(*x, *y))?;
+        }
+        Ok(())
+    }
+
     // A path that is built point by point, painted, emptied and painted again: its words still stand there.
     #[test]
     fn built_in_place(rt: HostRuntime) {
         let mut words = [0u64; 3072];
         let mut path = Path::new(&mut words);
         assert!(rt; !path.is_open());
-        assert!(rt; !path.append_point(3, 3));
-        assert!(rt; path.begin_subpath(0, 0));
-        assert!(rt;
-            path.append_point(32, 0) && path.append_point(32, 32) && path.append_point(0, 32)
-        );
-        assert!(rt; path.begin_subpath(16, 0));
-        assert!(rt;
-            path.append_point(32, 0) && path.append_point(32, 16) && path.append_point(16, 16)
-        );
+        assert!(rt; path.append_point(corner(3, 3)) == Err(PathError::NoSubpath));
+        assert!(rt; add_ring(&mut path, (0, 0), &[(32, 0), (32, 32), (0, 32)]).is_ok());
+        assert!(rt; add_ring(&mut path, (16, 0), &[(32, 0), (32, 16), (16, 16)]).is_ok());
         assert!(rt; path.is_open());
         assert_eq!(rt; path.points(), 8);
         let used = path.used();

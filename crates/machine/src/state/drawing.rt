@@ -10,7 +10,7 @@ use super::Machine;
 use crate::event::{Event, Fault};
 use crate::stage::Clipping;
 use path::builder::Path;
-use path::cursor::Corner;
+use path::corner::Corner;
 use stack::Full;
 
 impl<'s, 'a, S: Clipping> Machine<'s, 'a, S> {

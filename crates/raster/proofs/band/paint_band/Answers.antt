@@ -26,8 +26,8 @@ pub returns-then-start-end : goal.returns-then-start-end
 returns-then-start-end c =
     let path = c.args.path.now in
     let clips = c.args.clips.now in
-    let top = c.narrowed-levels.ensures.top ∙ ap (λ t. clips_top t (paths_in clips)) c.levels_of.ensures.top in
-    let bottom = c.narrowed-levels.ensures.bottom ∙ ap (λ t. clips_bottom t (paths_in clips)) c.levels_of.ensures.bottom in
+    let top = c.narrowed-levels.ensures.top ∙ ap (λ t. clips_top t (paths_in clips)) (c.levels_of.ensures.top ∙ ap (path_top 16777216) c.new.ensures) in
+    let bottom = c.narrowed-levels.ensures.bottom ∙ ap (λ t. clips_bottom t (paths_in clips)) (c.levels_of.ensures.bottom ∙ ap (path_bottom 0) c.new.ensures) in
     band_painted c.args.bytes.now c.paint_rows.new.bytes c.args.width c.args.first c.args.count c.min-start.result c.min-end.result (thing path clips c.args.grey) c.paint_rows.auto.bytes c.requires.len.0
     c.paint_rows.ensures.value c.paint_rows.ensures.before c.paint_rows.ensures.rest (omega arith)
     (λ r x lt. rows_over path clips c.args.grey c.args.first c.args.count c.narrowed-levels.result.top c.min-start.result r x top (omega arith) lt)
@@ -38,8 +38,8 @@ returns-else-start-end c =
     let path = c.args.path.now in
     let clips = c.args.clips.now in
     let was = c.args.bytes.now in
-    let top = c.narrowed-levels.ensures.top ∙ ap (λ t. clips_top t (paths_in clips)) c.levels_of.ensures.top in
-    let bottom = c.narrowed-levels.ensures.bottom ∙ ap (λ t. clips_bottom t (paths_in clips)) c.levels_of.ensures.bottom in
+    let top = c.narrowed-levels.ensures.top ∙ ap (λ t. clips_top t (paths_in clips)) (c.levels_of.ensures.top ∙ ap (path_top 16777216) c.new.ensures) in
+    let bottom = c.narrowed-levels.ensures.bottom ∙ ap (λ t. clips_bottom t (paths_in clips)) (c.levels_of.ensures.bottom ∙ ap (path_bottom 0) c.new.ensures) in
     band_painted was was c.args.width c.args.first c.args.count c.min-start.result c.min-end.result (thing path clips c.args.grey) refl c.requires.len.0
     (λ r x a b h. let no : ⊥ = omega arith in absurd no) (λ i lt. refl) (λ i le. refl) (omega arith)
     (λ r x lt. rows_over path clips c.args.grey c.args.first c.args.count c.narrowed-levels.result.top c.min-start.result r x top (omega arith) lt)

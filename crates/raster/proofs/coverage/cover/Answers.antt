@@ -1,7 +1,7 @@
 use Rattle.std.proofs.Common.{suc, ◌+◌, ◌*◌, ◌/◌, ap, ◌∙◌, arith}
 use Rattle.bits.specs.Row.{bit_at}
 use Rattle.bits.proofs.RowLaws.{odd_none, bit_unset}
-use Rattle.path.specs.Stored.{rings_in}
+use Rattle.path.specs.Reading.{rings_left}
 use Rattle.raster.specs.Coverage.{differ, in_path}
 use Rattle.raster.proofs.CrossLaws.{differ_false}
 use Rattle.raster.proofs.coverage.cover.Goals as goal
@@ -14,7 +14,7 @@ returns c =
       value = λ x le lt.
           c.sweep.ensures.value x (omega arith)
           ∙ c.cross_path-crossings.ensures.value x le lt
-          ∙ ap (differ (in_path (rings_in c.args.path.now) (16 * x + 8) c.args.level)) (odd_none (bit_at was) (suc x) (λ k less. bit_unset was k (c.requires.empty (k / 64))))
-          ∙ differ_false (in_path (rings_in c.args.path.now) (16 * x + 8) c.args.level);
+          ∙ ap (differ (in_path (rings_left c.args.path) (16 * x + 8) c.args.level)) (odd_none (bit_at was) (suc x) (λ k less. bit_unset was k (c.requires.empty (k / 64))))
+          ∙ differ_false (in_path (rings_left c.args.path) (16 * x + 8) c.args.level);
       within = c.sweep.ensures.within;
     }

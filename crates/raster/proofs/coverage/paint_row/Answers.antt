@@ -15,7 +15,7 @@ returns-else-covered-high c =
     let fits = c.requires.len.2 in
     record {
       value = λ x lt.
-          let out : in_path (rings_in c.args.path.now) (16 * x + 8) c.args.level ≡ false = sym (c.cover-covered.ensures.value x (omega arith) (omega arith)) ∙ bit_unset ws x (none (x / 64)) in
+          let out : in_path (rings_in c.args.path.now) (16 * x + 8) c.args.level ≡ false = sym (ap (λ r. in_path r (16 * x + 8) c.args.level) c.new.ensures) ∙ sym (c.cover-covered.ensures.value x (omega arith) (omega arith)) ∙ bit_unset ws x (none (x / 64)) in
           sym (ap (λ b. cond (b && in_all (paths_in c.args.clips.now) (16 * x + 8) c.args.level) c.args.grey (get_or c.args.row.now x 0)) out);
       bits = none;
       mask = c.requires.empty.1;
@@ -40,7 +40,7 @@ returns-then-covered-high c =
     record {
       value = λ x lt.
           c.paint.ensures x lt
-          ∙ ap (λ b. cond b c.args.grey (get_or c.args.row.now x 0)) (c.clip.ensures.value x ∙ ap (λ b. b && in_all (paths_in c.args.clips.now) (16 * x + 8) c.args.level) (c.cover-covered.ensures.value x (omega arith) (omega arith)));
+          ∙ ap (λ b. cond b c.args.grey (get_or c.args.row.now x 0)) (c.clip.ensures.value x ∙ ap (λ b. b && in_all (paths_in c.args.clips.now) (16 * x + 8) c.args.level) (c.cover-covered.ensures.value x (omega arith) (omega arith) ∙ ap (λ r. in_path r (16 * x + 8) c.args.level) c.new.ensures));
       bits = c.clear.ensures;
       mask = put_empty 0 (high - 0) c.args.mask.now c.clip.new.mask (omega arith) (c.clip.auto.mask ∙ len) c.requires.empty.1 c.clip.ensures.empty;
     }

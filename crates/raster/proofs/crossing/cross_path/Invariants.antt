@@ -1,6 +1,6 @@
 use Rattle.std.proofs.Common.{◌≡◌, ℕ, suc, ◌+◌, ◌*◌, ◌<◌, ◌≤◌, length}
 use Rattle.bits.specs.Row.{bit_at, odd_below, Within}
-use Rattle.path.specs.Stored.{rings_in}
+use Rattle.path.specs.Reading.{rings_left}
 use Rattle.raster.specs.Coverage.{differ, in_path}
 use Rattle.raster.proofs.crossing.cross_path.Given as goal
 
@@ -8,10 +8,6 @@ use Rattle.raster.proofs.crossing.cross_path.Given as goal
 abbrev pub invariant-loop-points : goal.invariant-loop-points
 invariant-loop-points l =
     ((x : ℕ) → l.left ≤ x → x < 64 * length l.initial.bits →
-    differ (in_path (rings_in l.rest) (16 * x + 8) l.level) (odd_below (bit_at l.bits) (suc x))
-    ≡ differ (in_path (rings_in l.initial.rest) (16 * x + 8) l.level) (odd_below (bit_at l.initial.bits) (suc x)))
+    differ (in_path (rings_left l.points-iterator) (16 * x + 8) l.level) (odd_below (bit_at l.bits) (suc x))
+    ≡ differ (in_path (rings_left l.initial.points-iterator) (16 * x + 8) l.level) (odd_below (bit_at l.initial.bits) (suc x)))
     × Within l.bits l.crossings.low l.crossings.high
-    × (length l.rest ≤ length l.initial.rest)
-
-abbrev pub decreases-loop-points : goal.decreases-loop-points
-decreases-loop-points l = length l.rest

@@ -1,7 +1,7 @@
-use Rattle.std.proofs.Common.{◌≡◌, ℕ, suc, ◌+◌, ◌*◌, ◌^◌, ◌<◌, ◌≤◌, length}
+use Rattle.std.proofs.Common.{◌≡◌, ℕ, suc, ◌+◌, ◌*◌, ◌<◌, ◌≤◌, length}
 use Rattle.bits.specs.Row.{bit_at, odd_below, Within}
 use Rattle.path.specs.Points.{point_of}
-use Rattle.path.specs.Stored.{points_in}
+use Rattle.path.specs.Reading.{points_left}
 use Rattle.raster.specs.Coverage.{differ, along}
 use Rattle.raster.proofs.crossing.cross_ring.Given as goal
 
@@ -9,12 +9,6 @@ use Rattle.raster.proofs.crossing.cross_ring.Given as goal
 abbrev pub invariant-loop-next : goal.invariant-loop-next
 invariant-loop-next l =
     ((x : ℕ) → l.left ≤ x → x < 64 * length l.initial.bits →
-    differ (along (point_of l.first) (points_in l.rest) (point_of l.last) (16 * x + 8) l.level) (odd_below (bit_at l.bits) (suc x))
-    ≡ differ (along (point_of l.first) (points_in l.initial.rest) (point_of l.first) (16 * x + 8) l.level) (odd_below (bit_at l.initial.bits) (suc x)))
+    differ (along (point_of l.first) (points_left l.next-iterator) (point_of l.last) (16 * x + 8) l.level) (odd_below (bit_at l.bits) (suc x))
+    ≡ differ (along (point_of l.first) (points_left l.initial.next-iterator) (point_of l.first) (16 * x + 8) l.level) (odd_below (bit_at l.initial.bits) (suc x)))
     × Within l.bits l.crossings.low l.crossings.high
-    × (l.last.x < 2 ^ 24)
-    × (l.last.y < 2 ^ 24)
-    × (length l.rest ≤ length l.initial.rest)
-
-abbrev pub decreases-loop-next : goal.decreases-loop-next
-decreases-loop-next l = length l.rest

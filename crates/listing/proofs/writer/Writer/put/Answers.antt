@@ -14,10 +14,10 @@ returns c =
     let was = c.args.self.now in
     let b = c.args.byte in
     elim c.if-self.branch [
-      | then-self w ↦ record { after = wrote_one b _ _ (counted ∙ ap one w.self-is); lent = ap held w.self-is }
+      | then-self w ↦ record { wrote = wrote_one b _ _ (counted ∙ ap one w.self-is); lent = ap held w.self-is }
       | else-self w ↦
           record {
-            after = wrote_one b _ _ (counted ∙ ap one w.self-is ∙ ap (output (min (was.at + 1) 18446744073709551615)) (sym (set_past was.bytes.now was.at b w.if-self.false)));
+            wrote = wrote_one b _ _ (counted ∙ ap one w.self-is ∙ ap (output (min (was.at + 1) 18446744073709551615)) (sym (set_past was.bytes.now was.at b w.if-self.false)));
             lent = ap held w.self-is;
           }
     ]

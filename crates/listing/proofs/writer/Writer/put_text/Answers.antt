@@ -1,18 +1,13 @@
-use Rattle.std.proofs.Common.{sym, refl, ◌∙◌, arith}
+use Rattle.std.proofs.Common.{sym, arith}
 use Rattle.std.proofs.lemmas.List.{take_more, take_all}
-use Rattle.listing.proofs.Writing.{wrote_none, then, same_text}
+use Rattle.listing.proofs.Putting.{put_none, then_put, put_as}
 use Rattle.listing.proofs.writer.Writer.put_text.Goals as goal
 
 pub loop-b-init : goal.loop-b-init
-loop-b-init c = (wrote_none _, refl)
+loop-b-init c = put_none _
 
 pub loop-b-preserved : goal.loop-b-preserved
-loop-b-preserved c =
-    let inv = c.loop-b.invariant in
-    let e = c.put.ensures in
-    (same_text (sym (take_more c.args.text.now c.loop-b.b-index 0 (omega arith))) (then inv.0 e.after), e.lent ∙ inv.1)
+loop-b-preserved c = put_as (sym (take_more c.args.text.now c.loop-b.b-index 0 (omega arith))) (then_put c.loop-b.invariant c.put.ensures)
 
 pub returns : goal.returns
-returns c =
-    let inv = c.loop-b.invariant in
-    record { after = same_text (take_all c.loop-b.b-index c.args.text.now (omega arith)) inv.0; lent = inv.1 }
+returns c = put_as (take_all _ c.args.text.now (omega arith)) c.loop-b.invariant

@@ -6,4 +6,4 @@ pub returns : goal.returns
 returns c =
     let p = c.args.self.now in
     let t = total_is p in
-    record { value = rings_front p.words.now p.start p.last p.used p.total (laid_of p); len = omega arith; few = omega arith; short = omega arith }
+    record { value = rings_front p.words.now p.start p.last p.built.used p.total (laid_of p); len = omega arith; few = omega arith; short = omega arith }

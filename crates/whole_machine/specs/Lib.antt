@@ -1,3 +1,0 @@
-pub mod Clips
-pub mod Names
-pub mod Abstraction
