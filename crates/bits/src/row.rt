@@ -12,7 +12,8 @@ pub struct Row<const N: usize> {
     pub(crate) low: usize,
     pub(crate) high: usize,
     ghost fits: { len ≤ N },
-    ghost reach: { high ≤ len },
+    ghost begins: { low ≤ len },
+    ghost ends: { high ≤ len },
     ghost within: { Within words low high },
 }
 

@@ -9,17 +9,13 @@ loop-path-preserved c =
     let n = c.in-Some.ensures in (
       λ x.
           all_step (rings_in c.in-Some.path.now) (paths_in c.in-Some.others.now) (paths_in c.loop-path.rest.now) (16 * x + 8) c.args.level _ _ n.cases
-          (c.keep_common.ensures.value x ∙ clipped_dot c.loop-path.bits c.cover-covered.new.bits c.args.span.low c.args.span.high x _ c.loop-path.invariant.1 (λ le lt. c.cover-covered.ensures.value x le (let l = c.requires.len.0 in omega arith)))
+          (c.keep_common.ensures.value x ∙ clipped_dot c.loop-path.row.words c.cover.new.row.words c.loop-path.row.low c.loop-path.row.high x _ c.loop-path.row.within (λ le lt. c.cover.ensures.value x (omega arith) (omega arith)))
           ∙ c.loop-path.invariant.0 x,
-      c.keep_common.ensures.within,
-      c.clear.ensures,
+      omega arith,
+      omega arith,
       omega (arith, n.rest),
     )
 
 pub returns : goal.returns
 returns c =
-    record {
-      value = λ x. all_none (paths_in c.loop-path.rest.now) (16 * x + 8) c.args.level (bit_at c.loop-path.bits x) c.in_default.ensures.cases ∙ c.loop-path.invariant.0 x;
-      within = c.loop-path.invariant.1;
-      empty = c.loop-path.invariant.2;
-    }
+    λ x. all_none (paths_in c.loop-path.rest.now) (16 * x + 8) c.args.level (bit_at c.loop-path.row.words x) c.in_default.ensures.cases ∙ c.loop-path.invariant.0 x

@@ -1,5 +1,5 @@
 use Rattle.std.proofs.Common.{◌≡◌, ℕ, ◌+◌, ◌*◌, ◌≤◌, ◌&&◌, length}
-use Rattle.bits.specs.Row.{bit_at, Within, Empty}
+use Rattle.bits.specs.Row.{bit_at}
 use Rattle.path.specs.Stored.{paths_in}
 use Rattle.raster.specs.Coverage.{in_all}
 use Rattle.raster.proofs.coverage.clip.Given as goal
@@ -8,9 +8,9 @@ use Rattle.raster.proofs.coverage.clip.Given as goal
 abbrev pub invariant-loop-path : goal.invariant-loop-path
 invariant-loop-path l =
     ((x : ℕ) →
-    (bit_at l.bits x && in_all (paths_in l.rest) (16 * x + 8) l.level) ≡ (bit_at l.initial.bits x && in_all (paths_in l.initial.rest) (16 * x + 8) l.level))
-    × Within l.bits l.span.low l.span.high
-    × Empty l.mask
+    (bit_at l.row.words x && in_all (paths_in l.rest) (16 * x + 8) l.level) ≡ (bit_at l.initial.row.words x && in_all (paths_in l.initial.rest) (16 * x + 8) l.level))
+    × (l.row.low ≡ l.span.start)
+    × (l.row.high ≡ l.span.end)
     × (length l.rest ≤ length l.initial.rest)
 
 abbrev pub decreases-loop-path : goal.decreases-loop-path

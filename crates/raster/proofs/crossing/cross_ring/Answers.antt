@@ -9,8 +9,8 @@ use Rattle.raster.proofs.crossing.cross_ring.Goals as goal
 pub returns-in_default : goal.returns-in_default
 returns-in_default c =
     record {
-      value = λ x le lt. sym (ap (λ b. differ b (odd_below (bit_at c.args.bits.now) (suc x))) (ring_none (points_in c.args.points.now) (16 * x + 8) c.args.level c.in_default.ensures.cases));
-      within = c.requires.within;
+      value = λ x le lt. sym (ap (λ b. differ b (odd_below (bit_at c.args.row.now.words) (suc x))) (ring_none (points_in c.args.points.now) (16 * x + 8) c.args.level c.in_default.ensures.cases));
+      len = omega arith;
     }
 
 pub loop-next-preserved : goal.loop-next-preserved
@@ -18,9 +18,9 @@ loop-next-preserved c =
     let n = c.in-Some-next_point.ensures in (
       λ x le lt.
           along_step (point_of c.in-Some.first) (point_of c.in-Some-next_point.next) (point_of c.loop-next.last) (points_in c.in-Some-next_point.tail.now) (points_in c.loop-next.rest.now) (16 * x + 8) c.args.level _ _ n.cases
-          (c.cross-crossings.ensures.value x le (omega arith))
+          (c.cross.ensures.value x le (omega arith))
           ∙ c.loop-next.invariant.0 x le lt,
-      c.cross-crossings.ensures.within,
+      omega arith,
       n.near.0,
       n.near.1,
       omega (arith, n.rest),
@@ -30,9 +30,9 @@ pub returns : goal.returns
 returns c =
     record {
       value = λ x le lt.
-          c.cross.ensures.value x le (omega arith)
-          ∙ ap (λ b. differ b (odd_below (bit_at c.loop-next.bits) (suc x))) (along_end (point_of c.in-Some.first) (point_of c.loop-next.last) (points_in c.loop-next.rest.now) (16 * x + 8) c.args.level c.in_default-next_point.ensures.cases)
+          c.cross-2.ensures.value x le (omega arith)
+          ∙ ap (λ b. differ b (odd_below (bit_at c.loop-next.row.words) (suc x))) (along_end (point_of c.in-Some.first) (point_of c.loop-next.last) (points_in c.loop-next.rest.now) (16 * x + 8) c.args.level c.in_default-next_point.ensures.cases)
           ∙ c.loop-next.invariant.0 x le lt
-          ∙ ap (λ b. differ b (odd_below (bit_at c.args.bits.now) (suc x))) (ring_begin (point_of c.in-Some.first) (points_in c.in-Some.others.now) (points_in c.args.points.now) (16 * x + 8) c.args.level c.in-Some.ensures.cases);
-      within = c.cross.ensures.within;
+          ∙ ap (λ b. differ b (odd_below (bit_at c.args.row.now.words) (suc x))) (ring_begin (point_of c.in-Some.first) (points_in c.in-Some.others.now) (points_in c.args.points.now) (16 * x + 8) c.args.level c.in-Some.ensures.cases);
+      len = omega arith;
     }
