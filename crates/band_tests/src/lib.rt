@@ -7,7 +7,7 @@
 #[cfg(test)]
 mod tests {
     use band::page::run_band;
-    use band::sink::Band;
+    use raster::band::Band;
     use whole_text::store_tokens;
 
     // Dots 1 and 2 of row 1 in grey 7 on a page, dot 0 of row 2 in grey 40 on the next, and then a fault.

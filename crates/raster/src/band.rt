@@ -43,25 +43,16 @@ impl Band {
 // A band in lent bytes, one byte a dot; bytes behind its rows are left alone.
 #[derive(Drop)]
 pub struct Canvas<'b> {
-    bytes: &'b mut [u8],
-    band: Band,
+    pub bytes: &'b mut [u8],
+    pub band: Band,
     ghost fits: { band.count * band.width ≤ length bytes.now },
 }
 
 impl<'b> Canvas<'b> {
-    // The band in the bytes.
-    pub fn new(bytes: &'b mut [u8], band: Band) -> Canvas<'b>
-        requires { band.count * band.width ≤ length bytes.old }
-        ensures bytes { result.bytes.now ≡ bytes.old }
-        ensures band { result.band ≡ band }
-        ensures lent { result.bytes.ghost_name ≡ bytes.entry.ghost_name }
-    {
-        Canvas { bytes, band }
-    }
-
     // Paints a thing.
     pub fn paint(&mut self, thing: Thing)
         ensures painted { PaintedBand self.old.bytes.now self.new.bytes.now self.old.band.width self.old.band.first self.old.band.count (painted_by thing.entry) }
+        ensures len { length self.new.bytes.now ≡ length self.old.bytes.now }
         ensures band { self.new.band ≡ self.old.band }
         ensures lent { self.new.bytes.ghost_name ≡ self.old.bytes.ghost_name }
     {
@@ -73,6 +64,7 @@ impl<'b> Canvas<'b> {
     pub fn paint_within(&mut self, thing: Thing, extent: Extent)
         ensures within { PaintedWithin self.old.bytes.now self.new.bytes.now self.old.band.width self.old.band.first self.old.band.count (painted_by thing.entry) extent }
         ensures after { ExtentOf extent (rings_in thing.entry.path.now) → PaintedBand self.old.bytes.now self.new.bytes.now self.old.band.width self.old.band.first self.old.band.count (painted_by thing.entry) }
+        ensures len { length self.new.bytes.now ≡ length self.old.bytes.now }
         ensures band { self.new.band ≡ self.old.band }
         ensures lent { self.new.bytes.ghost_name ≡ self.old.bytes.ghost_name }
     {

@@ -37,6 +37,6 @@ pub extern "C" fn raster_paint_band(
         first,
         count,
     };
-    Canvas::new(bytes, band).paint(Thing { path, clips, grey });
+    Canvas { bytes, band }.paint(Thing { path, clips, grey });
     true
 }

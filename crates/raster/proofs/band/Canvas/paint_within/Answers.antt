@@ -33,7 +33,7 @@ returns-then-reached c =
     let within =
     band_within was was b.width b.first b.count rows.start rows.end t e (λ r x from less h. let no : ⊥ = omega arith in absurd no) (λ i lt. refl) (λ i le. refl) (omega arith)
     (λ r x lt. misses_above e t x (b.first + r) (omega arith)) (λ r x le lt. misses_below e t x (b.first + r) (omega arith)) (λ r from less. let no : ⊥ = omega arith in absurd no) in
-    record { within = within; after = λ own. own_painted was was b.width b.first b.count t e refl c.args.self.now.fits within own; band = refl; lent = refl }
+    record { within = within; after = λ own. own_painted was was b.width b.first b.count t e refl c.args.self.now.fits within own; len = refl; band = refl; lent = refl }
 
 -- or none lies within what the clips leave of it
 pub returns-else-rows : goal.returns-else-rows
@@ -46,7 +46,7 @@ returns-else-rows c =
     let within =
     narrow was was t.path.now t.clips.now t.grey b.width b.first b.count rows.start rows.end c.narrowed.result.top c.narrowed.result.bottom e (λ r x from less h. let no : ⊥ = omega arith in absurd no) (λ i lt. refl) (λ i le. refl)
     c.narrowed.ensures.top c.narrowed.ensures.bottom c.rows_within-rows.ensures.start c.rows_within-rows.ensures.end in
-    record { within = within; after = λ own. own_painted was was b.width b.first b.count (painted_by t) e refl c.args.self.now.fits within own; band = refl; lent = refl }
+    record { within = within; after = λ own. own_painted was was b.width b.first b.count (painted_by t) e refl c.args.self.now.fits within own; len = refl; band = refl; lent = refl }
 
 pub returns-then-rows : goal.returns-then-rows
 returns-then-rows c =
@@ -60,4 +60,4 @@ returns-then-rows c =
     let within =
     narrow was new t.path.now t.clips.now t.grey b.width b.first b.count rows.start rows.end c.narrowed.result.top c.narrowed.result.bottom e painted.value painted.before painted.rest
     c.narrowed.ensures.top c.narrowed.ensures.bottom c.rows_within-rows.ensures.start c.rows_within-rows.ensures.end in
-    record { within = within; after = λ own. own_painted was new b.width b.first b.count (painted_by t) e painted.len c.args.self.now.fits within own; band = painted.band; lent = painted.lent }
+    record { within = within; after = λ own. own_painted was new b.width b.first b.count (painted_by t) e painted.len c.args.self.now.fits within own; len = painted.len; band = painted.band; lent = painted.lent }
