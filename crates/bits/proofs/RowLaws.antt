@@ -1,5 +1,5 @@
 -- Rows of bits: parities, one bit changed, and the steps of a sweep.
-use Rattle.std.proofs.Common.{◌≡◌, ℕ, zero, suc, ◌+◌, ◌-◌, ◌*◌, ◌/◌, ◌%◌, ◌^◌, ◌<◌, ◌≤◌, min, max, Bool, true, false, not, ◌&&◌, eqb, ltb, ◌≢◌, List, length, get_or, set, take, drop, sym, refl, ap, ◌∙◌, inl, inr, add-zero, add-suc, mod-lt, mod-eq_of_lt, arith, length-drop, length-set, length-take, get_or-set_other, get_or-set_same}
+use Rattle.std.proofs.Common.{◌≡◌, ℕ, zero, suc, ◌+◌, ◌-◌, ◌*◌, ◌/◌, ◌%◌, ◌^◌, ◌<◌, ◌≤◌, Bool, true, false, not, ◌&&◌, eqb, ltb, ◌≢◌, List, length, get_or, set, take, drop, sym, refl, ap, ◌∙◌, inl, inr, add-zero, add-suc, mod-lt, mod-eq_of_lt, arith, length-drop, length-take, get_or-set_other, get_or-set_same}
 use mathlib.Core.Bool.{xor}
 use native.Mathlib.Nat.{div-add-mod}
 use lib.Bits.{bit_and, bit_xor}
@@ -76,16 +76,6 @@ bit_toggled ws x k lt =
           ∙ sym (ap (λ b. xor b (bit_at ws k)) (ne_eqb k x (λ s. ne (ap (λ n. n / 64) s))) ∙ false_xor (bit_at ws k))
     ]
 
--- a span grows by the word that is changed
-pub within_set : (ws : List ℕ) (low high at v : ℕ) → at < length ws → Within ws low high → Within (set ws at v) (min low at) (max high (at + 1))
-within_set ws low high at v lt w =
-    let len = length-set ws at v in
-    let top = w.0 in (
-      omega arith,
-      λ i h. let ne : i ≢ at = omega arith in get_or-set_other ws at i v 0 ne ∙ w.1 i (omega arith),
-      λ i h. let ne : i ≢ at = omega arith in get_or-set_other ws at i v 0 ne ∙ w.2 i (omega arith),
-    )
-
 -- a word whose bits are parities of the last j bits, and the same of twice as many
 abbrev pub Spans : ℕ → ℕ → ℕ → Type 0
 Spans word j r = (k : ℕ) → k < 64 → bit r k ≡ xor (odd_below (bit word) (suc k)) (odd_below (bit word) (suc k - j))
@@ -120,9 +110,6 @@ unfolding odd_below
 spans_all word r h k lt =
     let e : suc k - 64 ≡ 0 = omega arith in
     h k lt ∙ ap (λ n. xor (odd_below (bit word) (suc k)) (odd_below (bit word) n)) e ∙ xor_false (odd_below (bit word) (suc k))
-
-pub within_as : (ws : List ℕ) (low high l h : ℕ) → low ≡ l → high ≡ h → Within ws low high → Within ws l h
-within_as ws low high l h el eh w = (omega (arith, w.0), λ i lt. w.1 i (omega arith), λ i le. w.2 i (omega arith))
 
 -- bits from m on that are not set leave the parity as it is
 pub odd_stays : (f : ℕ → Bool) (m n : ℕ) → m ≤ n → ((k : ℕ) → m ≤ k → k < n → f k ≡ false) → odd_below f n ≡ odd_below f m
@@ -328,11 +315,3 @@ swept_odd was ws part low high len w order le swept ones all odd x lt =
           ap (λ v. bit v (x % 64)) (put_in high (len - high) ws part (x / 64) 0 (omega arith) (omega arith) (omega arith) ∙ ones (x / 64 - high) (omega arith))
           ∙ bit_ones (x % 64) (mod-lt x {m = 64} (omega arith)) ∙ odd ∙ sym (odd_after was low high x w ge)
     ]
-
-pub filled_within : (ws part : List ℕ) (low high len : ℕ) → high ≤ len → low ≤ high → len ≤ length ws → Within ws low high → length part ≡ len - high → Within (put_mid high (len - high) ws part) low len
-filled_within ws part low high len order above le w l =
-    let all : length (put_mid high (len - high) ws part) ≡ length ws = put_length high (len - high) ws part (omega arith) l in (
-      omega arith,
-      λ i lt. put_before high (len - high) ws part i 0 (omega arith) (omega arith) ∙ w.1 i lt,
-      λ i ge. put_past high (len - high) ws part i 0 (omega arith) l (omega arith) ∙ w.2 i (omega arith),
-    )

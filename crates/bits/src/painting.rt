@@ -17,7 +17,7 @@ impl<const N: usize> Row<N> {
             let run = full_words(&words[i..self.high]);
             if run > 0 {
                 let end = (64 * (i + run)).min(width);
-                fill_dots(&mut dots[start..end], grey);
+                dots[start..end].fill(grey);
                 i += run;
             } else {
                 let end = (start + 64).min(width);
@@ -26,13 +26,6 @@ impl<const N: usize> Row<N> {
             }
         }
     }
-}
-
-// Writes grey to every dot.
-fn fill_dots(dots: &mut [u8], grey: u8)
-    ensures { (x : ℕ) → x < length dots.old → slice_index dots.new x ≡ grey }
-{
-    dots.fill(grey);
 }
 
 // How many clear bits stand below the lowest set one.
@@ -68,7 +61,7 @@ fn paint_word(dots: &mut [u8], word: u64, grey: u8)
         let run = set_bits(set);
         let start = from + skip as usize;
         let end = start + run as usize;
-        fill_dots(&mut dots[start.min(len)..end.min(len)], grey);
+        dots[start.min(len)..end.min(len)].fill(grey);
         if run >= 64 {
             break;
         }

@@ -69,7 +69,7 @@ impl<const N: usize> Row<N> {
         }
         let words = &mut self.words[..];
         if sweep_words(&mut words[self.low..self.high]) != 0 {
-            fill_words(&mut words[self.high..self.len], u64::MAX);
+            words[self.high..self.len].fill(u64::MAX);
             self.high = self.len;
         }
     }
@@ -98,7 +98,7 @@ impl<const N: usize> Row<N> {
     {
         if self.low < self.high {
             let words = &mut self.words[..];
-            fill_words(&mut words[self.low..self.high], 0);
+            words[self.low..self.high].fill(0);
         }
         self.len = len;
         self.low = len;
@@ -150,11 +150,4 @@ fn keep_words(words: &mut [u64], others: &[u64])
     for (i, word) in words.iter_mut().enumerate() {
         *word &= others[i];
     }
-}
-
-// Sets every word to `word`.
-fn fill_words(words: &mut [u64], word: u64)
-    ensures { (i : ℕ) → i < length words.old → slice_index words.new i ≡ word }
-{
-    words.fill(word);
 }

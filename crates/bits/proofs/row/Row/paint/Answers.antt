@@ -1,6 +1,7 @@
 use Rattle.std.proofs.Common.{◌≡◌, ◌+◌, ◌-◌, ◌*◌, ◌/◌, cond, length, get_or, take, drop, sym, ap, ◌∙◌, arith, length-drop, length-take}
 use Rattle.std.proofs.lemmas.List.{get_or-take, get_or-drop}
 use Rattle.bits.specs.Row.{bit, bit_at}
+use Rattle.bits.proofs.PartLaws.{filled}
 use Rattle.bits.proofs.RowLaws.{bit_unset, bit_in_word, length-middle}
 use Rattle.bits.proofs.PaintLaws.{full_bit, painted_none, painted_more, painted_all}
 use Rattle.bits.proofs.row.Row.paint.Goals as goal
@@ -41,7 +42,7 @@ loop-i-preserved-then-run-gt0 g c =
     let run = c.full_words-run.result in
     let s = c.min-start.result in
     let e = c.min-end.result in
-    let part = c.fill_dots.new.dots in
+    let part = c.fill.new.self in
     let se = c.min-start.ensures in
     let ee = c.min-end.ensures in
     let top = c.args.self.now.within.0 in
@@ -49,9 +50,9 @@ loop-i-preserved-then-run-gt0 g c =
     let words = length-middle ws i c.args.self.now.high top in
     let mid : length (take (e - s) (drop s row)) ≡ e - s = simp (length-take, length-drop) (omega arith) in
     painted_more (bit_at ws) c.args.grey c.args.dots.now row part (64 * i) (64 * i) (64 * (i + run)) s e c.loop-i.invariant (omega arith) (omega arith) (λ x a b. let no : ⊥ = omega arith in absurd no) (omega arith) (omega arith)
-    (c.fill_dots.auto.dots ∙ mid)
+    (c.fill.auto.self ∙ mid)
     (λ k lt at.
-    c.fill_dots.ensures k (omega arith)
+    filled _ c.args.grey part (c.fill.ensures.after (λ y e. e)) k (omega arith)
     ∙ sym (ap (λ b. cond b c.args.grey (get_or c.args.dots.now (64 * i + k) 0)) (full_bit ws i c.args.self.now.high run (64 * i + k) (omega arith) (omega arith) (omega arith) c.full_words-run.ensures.full)))
 
 pub returns : goal.returns
