@@ -2,7 +2,7 @@ ghost use Rattle.std.specs.Prelude.{◌≡◌, ◌*◌, ◌≤◌, not, [], ◌�
 ghost use Rattle.band.specs.Canvas.{Canvas, paint_onto, page_over};
 
 use path::extent::Extent;
-use raster::band::{self, Band};
+use raster::band::Band;
 use raster::thing::Thing;
 use whole_run::drive::Sink;
 
@@ -10,7 +10,7 @@ use whole_run::drive::Sink;
 // that is shown, and takes no more.
 #[derive(Drop)]
 pub struct BandSink<'b> {
-    // not as one canvas: who lends bytes to a struct in a struct does not learn what they end as
+    // not as raster's canvas: who lends to a struct in a struct does not learn what is left behind the loan
     pub bytes: &'b mut [u8],
     pub band: Band,
     pub before: u64,
@@ -35,11 +35,8 @@ impl<'b> Sink for BandSink<'b> {
         if !self.done && self.before == 0 {
             let bytes = &mut *self.bytes;
             let thing = Thing { path, clips, grey };
-            band::Canvas {
-                bytes,
-                band: self.band,
-            }
-            .paint_within(thing, extent);
+            let band = self.band;
+            raster::band::Canvas { bytes, band }.paint_within(thing, extent);
         }
     }
 

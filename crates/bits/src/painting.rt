@@ -6,11 +6,12 @@ use crate::row::Row;
 impl<const N: usize> Row<N> {
     // Writes grey to the dots whose bits are set: a run of full words at once, any other word by itself.
     pub fn paint(&self, dots: &mut [u8], grey: u8)
-        requires { N < 2 ^ 32 }
+        requires { self.now.len < 2 ^ 32 }
         ensures { (x : ℕ) → x < length dots.old → slice_index dots.new x ≡ (if bit_at self.now.words x then grey else slice_index dots.old x) }
     {
         let words = &self.words[..];
         let width = dots.len();
+        // a run of full words is one step, so the place is counted by hand
         let mut i = self.low;
         while i < self.high {
             let start = (64 * i).min(width);

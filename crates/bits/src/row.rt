@@ -147,6 +147,7 @@ fn keep_words(words: &mut [u64], others: &[u64])
     requires { length words.old ≤ length others.now }
     ensures { (i : ℕ) → i < length words.old → slice_index words.new i ≡ bit_and (slice_index words.old i) (slice_index others.now i) }
 {
+    // by their place: what a loop over `iter_mut().zip(others)` wrote is not known after it
     for (i, word) in words.iter_mut().enumerate() {
         *word &= others[i];
     }

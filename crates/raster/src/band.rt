@@ -2,7 +2,6 @@ ghost use Rattle.std.specs.Prelude.{◌≡◌, ℕ, ◌+◌, ◌-◌, ◌*◌, �
 ghost use Rattle.path.specs.Extent.{ExtentOf};
 ghost use Rattle.path.specs.Stored.{rings_in};
 ghost use Rattle.raster.specs.Coverage.{covers};
-ghost use Rattle.raster.specs.Band.{PaintedWithin, PaintedBand};
 ghost use Rattle.raster.specs.Thing.{painted_by};
 
 use super::coverage::paint_row;
@@ -49,9 +48,11 @@ pub struct Canvas<'b> {
 }
 
 impl<'b> Canvas<'b> {
+    ghost use Rattle.raster.specs.Canvas.{Painted, PaintedIn};
+
     // Paints a thing.
     pub fn paint(&mut self, thing: Thing)
-        ensures painted { PaintedBand self.old.bytes.now self.new.bytes.now self.old.band.width self.old.band.first self.old.band.count (painted_by thing.entry) }
+        ensures painted { Painted self.old self.new (painted_by thing.entry) }
         ensures len { length self.new.bytes.now ≡ length self.old.bytes.now }
         ensures band { self.new.band ≡ self.old.band }
         ensures lent { self.new.bytes.ghost_name ≡ self.old.bytes.ghost_name }
@@ -62,8 +63,8 @@ impl<'b> Canvas<'b> {
     // Paints as `paint` does, where the extent is the path's. Rows outside of the extent are left alone, whatever
     // extent that is, so a thing that does not reach the band costs a comparison and no walk over its points.
     pub fn paint_within(&mut self, thing: Thing, extent: Extent)
-        ensures within { PaintedWithin self.old.bytes.now self.new.bytes.now self.old.band.width self.old.band.first self.old.band.count (painted_by thing.entry) extent }
-        ensures after { ExtentOf extent (rings_in thing.entry.path.now) → PaintedBand self.old.bytes.now self.new.bytes.now self.old.band.width self.old.band.first self.old.band.count (painted_by thing.entry) }
+        ensures within { PaintedIn self.old self.new (painted_by thing.entry) extent }
+        ensures after { ExtentOf extent (rings_in thing.entry.path.now) → Painted self.old self.new (painted_by thing.entry) }
         ensures len { length self.new.bytes.now ≡ length self.old.bytes.now }
         ensures band { self.new.band ≡ self.old.band }
         ensures lent { self.new.bytes.ghost_name ≡ self.old.bytes.ghost_name }
@@ -89,6 +90,7 @@ impl<'b> Canvas<'b> {
         ensures lent { self.new.bytes.ghost_name ≡ self.old.bytes.ghost_name }
     {
         let Band { width, first, .. } = self.band;
+        // room for the bits of one row, which is begun anew for each
         let mut row = Row::new(0);
         let mut mask = Row::new(0);
         // by their number and not by `chunks_exact_mut`, which refuses rows of no dots
