@@ -8,7 +8,7 @@ use Rattle.machine.specs.Laws.{state_of, begins_with}
 use Rattle.whole_machine.proofs.Showing.{longer_run}
 use Rattle.whole_run.specs.declared.drive.Ending.{Ending}
 use Rattle.whole_run.specs.Sinks.{is_stopped, all_painted, all_shown, past_of, told, Driven}
-use Rattle.band.specs.declared.sink.Band.{Band}
+use Rattle.raster.specs.declared.band.Band.{Band}
 use Rattle.band.specs.Canvas.{Canvas, fits, on_page, paint_onto, page_over}
 use Rattle.band.proofs.Painting.{size, band_rows, canvas, all_fits, white_rows, all_on_page, off_page}
 
@@ -51,7 +51,7 @@ done_kept [] c = refl
 done_kept (p ∷ ps) c = done_kept ps (paint_onto p c) ∙ cond_both (on_page c) _ c (λ z. z.done ≡ c.done) (λ _. refl) (λ _. refl)
 
 -- a run for a band of page k over bytes whose rows are white at first, and what its sink has come to
-module _ (b : Band) (bs white : List ℕ) (k steps : ℕ) (s : State) (r : Ending) (after : Canvas) (narrow : b.width ≤ 8192) (near : b.first + b.count ≤ 65536) (few : size b ≤ length bs)
+module _ (b : Band) (bs white : List ℕ) (k steps : ℕ) (s : State) (r : Ending) (after : Canvas) (few : size b ≤ length bs)
     (whitened : white ≡ replicate (size b) 255 ++ drop (size b) bs) (d : Driven paint_onto page_over (λ c. not c.done) r steps s (canvas b k false white) after) where
   abbrev rest : List ℕ
   rest = drop (size b) bs
@@ -78,7 +78,7 @@ module _ (b : Band) (bs white : List ℕ) (k steps : ℕ) (s : State) (r : Endin
   reached : k < length part → after ≡ canvas b 0 true (band_rows (get_or part k []) b ++ rest)
   reached lt =
       let ps = (state_of (run d.taken s)).paints in
-      seen ∙ ap (all_painted paint_onto ps) (page_reached b rest (all_fits b bs narrow near few) part k lt) ∙ off_page ps (canvas b 0 true (band_rows (get_or part k []) b ++ rest)) refl
+      seen ∙ ap (all_painted paint_onto ps) (page_reached b rest (all_fits b (size b + length rest) (omega arith)) part k lt) ∙ off_page ps (canvas b 0 true (band_rows (get_or part k []) b ++ rest)) refl
 
   missed : length part ≤ k → after.done ≡ false
   missed le = ap (λ c. c.done) seen ∙ done_kept (state_of (run d.taken s)).paints _ ∙ pages_before part b k (band_rows [] b ++ rest) le

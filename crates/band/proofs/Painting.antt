@@ -1,5 +1,5 @@
 -- Things painted onto the bytes of a band: one, and then all of a page.
-use Rattle.std.proofs.Common.{◌≡◌, ℕ, zero, suc, ◌+◌, ◌*◌, ◌/◌, ◌%◌, ◌<◌, ◌≤◌, Bool, true, false, cond, not, ◌&&◌, eqb, List, [], ◌∷◌, ◌++◌, length, get_or, drop, replicate, sym, refl, ap, ◌∙◌, inl, inr, suc-mul, add_comm, zero-add, zero-mul, add-one, arith}
+use Rattle.std.proofs.Common.{◌≡◌, ℕ, zero, suc, ◌+◌, ◌*◌, ◌/◌, ◌%◌, ◌<◌, ◌≤◌, Bool, true, false, cond, not, ◌&&◌, eqb, List, [], ◌∷◌, ◌++◌, length, get_or, replicate, sym, refl, ap, ◌∙◌, inl, inr, suc-mul, add_comm, zero-add, zero-mul, add-one, arith}
 use Rattle.std.proofs.lemmas.Nat.{div-add-mod', div-mul-add, mod-mul-add, div_below, mod_below}
 use Rattle.std.proofs.lemmas.List.FromFn.{length-map-range_with_len, get_or-map-range_with_len, fill_by_all}
 use Rattle.std.proofs.lemmas.List.{append-nil, append_assoc, length-append, take_at, drop_at, get_or_past, replicate_more, replicate-append-replicate}
@@ -14,7 +14,7 @@ use Rattle.raster.specs.Thing.{thing}
 use Rattle.raster.proofs.Painting.{clips_turned}
 use Rattle.raster.proofs.BandLaws.{length-rows, row_ends, painted_more}
 use Rattle.whole_run.specs.Sinks.{all_painted}
-use Rattle.band.specs.declared.sink.Band.{Band}
+use Rattle.raster.specs.declared.band.Band.{Band}
 use Rattle.band.specs.Canvas.{Canvas, fits, byte_after, painted, on_page, paint_onto}
 
 abbrev pub size : Band → ℕ
@@ -27,10 +27,9 @@ band_rows ps b = rows ps b.width b.first b.count
 abbrev pub canvas : Band → ℕ → Bool → List ℕ → Canvas
 canvas b k d bs = record { band = b; before = k; done = d; bytes = bs }
 
--- rows that fit fit with the bytes behind them
-pub all_fits : (b : Band) (bs : List ℕ) → b.width ≤ 8192 → b.first + b.count ≤ 65536 → size b ≤ length bs → fits b (size b + length (drop (size b) bs)) ≡ true
-all_fits b bs narrow near few =
-    and_from _ _ (le-leb b.width 8192 narrow) (and_from _ _ (le-leb (b.first + b.count) 65536 near) (le-leb (size b) (size b + length (drop (size b) bs)) (omega arith)))
+-- a band is on a page, so it fits where there are bytes enough
+pub all_fits : (b : Band) (n : ℕ) → size b ≤ n → fits b n ≡ true
+all_fits b n few = and_from _ _ (le-leb b.width 8192 b.narrow) (and_from _ _ (le-leb (b.first + b.count) 65536 b.near) (le-leb (size b) n few))
 
 -- where there is a dot, rows are not empty
 some_width : (i n w : ℕ) → i < n * w → 0 < w

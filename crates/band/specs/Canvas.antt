@@ -3,7 +3,7 @@ use Rattle.std.specs.Prelude.{ℕ, ◌+◌, ◌-◌, ◌*◌, ◌/◌, ◌%◌, 
 use Rattle.std.specs.List.{range_with_len}
 use Rattle.path.specs.Path.{Paint}
 use Rattle.raster.specs.Coverage.{covers}
-use Rattle.band.specs.declared.sink.Band.{Band}
+use Rattle.raster.specs.declared.band.Band.{Band}
 
 -- which rows are asked for, how many pages are still to be shown before theirs, whether theirs has been shown, and the bytes
 pub record Canvas : Type 0 where

@@ -4,7 +4,8 @@ ghost use Rattle.machine.specs.Machine.{begin, run};
 ghost use Rattle.machine.specs.Laws.{state_of};
 ghost use Rattle.raster.specs.Coverage.{rows};
 
-use crate::sink::{Band, BandSink};
+use crate::sink::BandSink;
+use raster::band::Band;
 use whole_run::job::run_job;
 
 // the first n bytes white
@@ -27,8 +28,7 @@ pub fn run_band(
     band: Band,
 ) -> bool
     requires path { (3072 ≤ length path.old) × (3072 ≤ length clips.old) }
-    requires len { (band.count * band.width ≤ length bytes.old) × (band.width ≤ 8192) }
-    requires near { band.first + band.count ≤ 65536 }
+    requires len { band.count * band.width ≤ length bytes.old }
     ensures shown { result ≡ nat_lt page (length (state_of (run steps (begin (decode tokens.now)))).pages) }
     ensures rows { result ≡ true → bytes.new ≡ rows (slice_index_or (state_of (run steps (begin (decode tokens.now)))).pages page []) band.width band.first band.count ++ drop (band.count * band.width) bytes.old }
     ensures none { result ≡ false → bytes.new ≡ replicate (length bytes.old) 0 }

@@ -1,37 +1,21 @@
-ghost use Rattle.std.specs.Prelude.{◌≡◌, not, [], ◌∷◌};
-ghost use Rattle.band.specs.Canvas.{Canvas, fits, paint_onto, page_over};
+ghost use Rattle.std.specs.Prelude.{◌≡◌, ◌*◌, ◌≤◌, not, [], ◌∷◌, length};
+ghost use Rattle.band.specs.Canvas.{Canvas, paint_onto, page_over};
 
 use path::extent::Extent;
-use raster::band::paint_within;
+use raster::band::Band;
+use raster::thing::Thing;
 use whole_run::drive::Sink;
 
-// the rows of a page that are asked for: `count` rows of `width` dots from row `first` on
-#[derive(Clone, Copy)]
-pub struct Band {
-    pub width: usize,
-    pub first: u32,
-    pub count: usize,
-}
-
-// A band over lent bytes, painted as a job goes. `before` pages are still to be shown before its own; it is done
-// when that is shown, and takes no more.
+// A band in lent bytes, painted as a job goes. `before` pages are still to be shown before its own; it is done when
+// that is shown, and takes no more.
 #[derive(Drop)]
 pub struct BandSink<'b> {
+    // not as raster's canvas: who lends to a struct in a struct does not learn what is left behind the loan
     pub bytes: &'b mut [u8],
     pub band: Band,
     pub before: u64,
     pub done: bool,
-}
-
-// Whether the rows can be painted and stand in so many bytes: asked for each thing, since a sink that lends its bytes
-// cannot carry the fact.
-fn fits_in(band: Band, len: usize) -> bool
-    ensures { result ≡ fits band len }
-{
-    band.width <= 8192
-        && band.count <= 65536
-        && band.first as usize + band.count <= 65536
-        && band.count * band.width <= len
+    ghost fits: { band.count * band.width ≤ length bytes.now },
 }
 
 impl<'b> Sink for BandSink<'b> {
@@ -48,11 +32,11 @@ impl<'b> Sink for BandSink<'b> {
     ghost lent = { λ s. s.bytes.ghost_name ∷ [] };
 
     fn painted(&mut self, path: &[u64], extent: Extent, clips: &[u64], grey: u8) {
-        let band = self.band;
-        if !self.done && self.before == 0 && fits_in(band, self.bytes.len()) {
-            paint_within(
-                path, extent, clips, grey, self.bytes, band.width, band.first, band.count,
-            );
+        if !self.done && self.before == 0 {
+            let bytes = &mut *self.bytes;
+            let thing = Thing { path, clips, grey };
+            let band = self.band;
+            raster::band::Canvas { bytes, band }.paint_within(thing, extent);
         }
     }
 

@@ -1,12 +1,14 @@
 -- A row that is painted from its beginning on, part by part, and the runs of bits in a word.
-use Rattle.std.proofs.Common.{◌≡◌, ℕ, ◌+◌, ◌-◌, ◌*◌, ◌/◌, ◌%◌, ◌^◌, ◌<◌, ◌≤◌, min, Bool, true, false, cond, List, length, get_or, sym, refl, ap, ◌∙◌, inl, inr, add-zero, mod-lt, arith, pow_mono, shr-shr}
-use mathlib.Core.Bool.{xor}
+use Rattle.std.proofs.Common.{◌≡◌, eqb, w64, ℕ, ◌+◌, ◌-◌, ◌*◌, ◌/◌, ◌%◌, ◌^◌, ◌<◌, ◌≤◌, min, Bool, true, false, cond, List, length, get_or, sym, refl, ap, ◌∙◌, inl, inr, add-zero, mod-lt, arith, pow_mono, shr-shr}
 use native.Mathlib.Nat.{div-eq_of_lt}
 use borrow.Rule.Slice.PartMut.{put_mid}
-use lib.Bits.{bit_xor}
 use Rattle.std.proofs.lemmas.Bool.{cases_lt, false≢true}
+use lib.Count.{count_trailing_zeros}
+use Rattle.std.specs.Int.{trailing_ones}
+use Rattle.std.proofs.lemmas.Nat.Bits.{bit_at-trailing_ones}
 use Rattle.bits.specs.Row.{bit, bit_at}
-use Rattle.bits.proofs.BitLaws.{bit_shr, bit_xor_lem, bit_ones}
+use Rattle.bits.proofs.BitLaws.{bit_shr, bit_ones}
+use Rattle.bits.proofs.RowLaws.{middle, in_middle}
 use Rattle.bits.proofs.PartLaws.{put_before, put_in, put_past, put_length}
 
 -- dots before `at` are grey where they are covered, those from there on are as they were
@@ -76,29 +78,23 @@ run_some set rest skip run e at ends =
           absurd (false≢true (sym (ends (omega arith)) ∙ a))
     ]
 
--- a bit that is clear in the complement is set
-pub other_clear : (word k : ℕ) → k < 64 → bit (bit_xor word 18446744073709551615) k ≡ false → bit word k ≡ true
-unfolding xor
-other_clear word k lt h = flip (bit word k) (sym (bit_xor_lem word 18446744073709551615 k ∙ ap (xor (bit word k)) (bit_ones k lt)) ∙ h)
-  where
-    flip : (b : Bool) → xor b true ≡ false → b ≡ true
-    flip true e = refl
-    flip false e = sym e
-
-pub other_set : (word k : ℕ) → k < 64 → bit (bit_xor word 18446744073709551615) k ≡ true → bit word k ≡ false
-unfolding xor
-other_set word k lt h = flip (bit word k) (sym (bit_xor_lem word 18446744073709551615 k ∙ ap (xor (bit word k)) (bit_ones k lt)) ∙ h)
-  where
-    flip : (b : Bool) → xor b true ≡ true → b ≡ false
-    flip true e = sym e
-    flip false e = refl
+-- how far the lowest bits of a word are all set
+pub set_run : (word run : ℕ) → word < 2 ^ 64 → run ≡ trailing_ones w64 word → (run ≤ 64) × ((k : ℕ) → k < run → bit word k ≡ true) × (run < 64 → bit word run ≡ false)
+unfolding bit count_trailing_zeros
+set_run word run fits is =
+    elim (cases_lt (word + 1) (2 ^ 64)) [
+      | inl some ↦
+          let place = bit_at-trailing_ones w64 word some in
+          (omega arith, λ k lt. ap (λ n. eqb n 1) (place.2 k (omega arith)), λ lt. ap (λ n. eqb (word / 2 ^ n % 2) 1) is ∙ ap (λ n. eqb n 1) place.1)
+      | inr all ↦
+          let full : word ≡ 18446744073709551615 = omega arith in
+          let most : run ≡ 64 = is ∙ ap (trailing_ones w64) full in
+          (omega arith, λ k lt. ap (λ w. bit w k) full ∙ bit_ones k (omega arith), λ lt. absurd (omega arith))
+    ]
 
 -- a dot in a run of full words
-pub full_bit : (ws : List ℕ) (i next x : ℕ) → get_or ws i 0 ≡ 18446744073709551615 → 64 * i ≤ x → x < 64 * next → ((k : ℕ) → i + 1 ≤ k → k < next → get_or ws k 0 ≡ 18446744073709551615) → bit_at ws x ≡ true
-full_bit ws i next x first from to rest =
-    let word : get_or ws (x / 64) 0 ≡ 18446744073709551615 =
-    elim (cases_lt i (x / 64)) [
-      | inl later ↦ rest (x / 64) (omega arith) (omega arith)
-      | inr same ↦ let e : x / 64 ≡ i = omega arith in ap (λ n. get_or ws n 0) e ∙ first
-    ] in
+pub full_bit : (ws : List ℕ) (i high run x : ℕ) → 64 * i ≤ x → x < 64 * (i + run) → run ≤ high - i → ((k : ℕ) → k < run → get_or (middle ws i high) k 0 ≡ 18446744073709551615) → bit_at ws x ≡ true
+full_bit ws i high run x from to few full =
+    let at : i + (x / 64 - i) ≡ x / 64 = omega arith in
+    let word : get_or ws (x / 64) 0 ≡ 18446744073709551615 = sym (ap (λ n. get_or ws n 0) at) ∙ sym (in_middle ws i high (x / 64 - i) (omega arith)) ∙ full (x / 64 - i) (omega arith) in
     ap (λ w. bit w (x % 64)) word ∙ bit_ones (x % 64) (mod-lt x {m = 64} (omega arith))

@@ -1,13 +1,13 @@
 -- Rows of bits: parities, one bit changed, and the steps of a sweep.
-use Rattle.std.proofs.Common.{◌≡◌, ℕ, zero, suc, ◌+◌, ◌-◌, ◌*◌, ◌/◌, ◌%◌, ◌^◌, ◌<◌, ◌≤◌, min, max, Bool, true, false, not, ◌&&◌, eqb, ltb, ◌≢◌, List, length, get_or, set, sym, refl, ap, ◌∙◌, inl, inr, add-zero, add-suc, mod-lt, mod-eq_of_lt, arith, length-set, get_or-set_other, get_or-set_same}
+use Rattle.std.proofs.Common.{◌≡◌, ℕ, zero, suc, ◌+◌, ◌-◌, ◌*◌, ◌/◌, ◌%◌, ◌^◌, ◌<◌, ◌≤◌, Bool, true, false, not, ◌&&◌, eqb, ltb, ◌≢◌, List, length, get_or, set, take, drop, sym, refl, ap, ◌∙◌, inl, inr, add-zero, add-suc, mod-lt, mod-eq_of_lt, arith, length-drop, length-take, get_or-set_other, get_or-set_same}
 use mathlib.Core.Bool.{xor}
 use native.Mathlib.Nat.{div-add-mod}
 use lib.Bits.{bit_and, bit_xor}
 use Rattle.std.proofs.lemmas.Bool.{cases_lt, cases_eq, eq-eqb, ne_eqb, lt-ltb, le-ltb}
 use Rattle.std.proofs.lemmas.Nat.{div_below}
 use borrow.Rule.Slice.PartMut.{put_mid}
-use Rattle.std.proofs.lemmas.List.{get_or_past}
-use Rattle.bits.proofs.PartLaws.{put_before, put_in, put_length}
+use Rattle.std.proofs.lemmas.List.{get_or-take, get_or-drop}
+use Rattle.bits.proofs.PartLaws.{put_before, put_in, put_past, put_length}
 use Rattle.bits.specs.Row.{bit, bit_at, odd_below, Within}
 use Rattle.bits.proofs.BitLaws.{bit_xor_lem, bit_and_lem, bit_zero, bit_power, bit_one, bit_shl_above, bit_shl_below, bit_ones, false_xor, xor_false, xor_comm, xor_assoc, xor_self, xor_middle}
 
@@ -76,16 +76,6 @@ bit_toggled ws x k lt =
           ∙ sym (ap (λ b. xor b (bit_at ws k)) (ne_eqb k x (λ s. ne (ap (λ n. n / 64) s))) ∙ false_xor (bit_at ws k))
     ]
 
--- a span grows by the word that is changed
-pub within_set : (ws : List ℕ) (low high at v : ℕ) → at < length ws → Within ws low high → Within (set ws at v) (min low at) (max high (at + 1))
-within_set ws low high at v lt w =
-    let len = length-set ws at v in
-    let top = w.0 in (
-      omega arith,
-      λ i h. let ne : i ≢ at = omega arith in get_or-set_other ws at i v 0 ne ∙ w.1 i (omega arith),
-      λ i h. let ne : i ≢ at = omega arith in get_or-set_other ws at i v 0 ne ∙ w.2 i (omega arith),
-    )
-
 -- a word whose bits are parities of the last j bits, and the same of twice as many
 abbrev pub Spans : ℕ → ℕ → ℕ → Type 0
 Spans word j r = (k : ℕ) → k < 64 → bit r k ≡ xor (odd_below (bit word) (suc k)) (odd_below (bit word) (suc k - j))
@@ -120,9 +110,6 @@ unfolding odd_below
 spans_all word r h k lt =
     let e : suc k - 64 ≡ 0 = omega arith in
     h k lt ∙ ap (λ n. xor (odd_below (bit word) (suc k)) (odd_below (bit word) n)) e ∙ xor_false (odd_below (bit word) (suc k))
-
-pub within_as : (ws : List ℕ) (low high l h : ℕ) → low ≡ l → high ≡ h → Within ws low high → Within ws l h
-within_as ws low high l h el eh w = (omega (arith, w.0), λ i lt. w.1 i (omega arith), λ i le. w.2 i (omega arith))
 
 -- bits from m on that are not set leave the parity as it is
 pub odd_stays : (f : ℕ → Bool) (m n : ℕ) → m ≤ n → ((k : ℕ) → m ≤ k → k < n → f k ≡ false) → odd_below f n ≡ odd_below f m
@@ -167,11 +154,10 @@ carried_none carry r k lt h =
     h ∙ sym (carried 0 carry (suc k) lt (omega arith) ∙ ap (xor (not (eqb carry 0))) (odd_none (bit 0) (suc k) (λ j less. bit_zero j)) ∙ xor_false (not (eqb carry 0)))
 
 -- one word more of a sweep: `was` is the row before it
-abbrev pub Swept : List ℕ → List ℕ → ℕ → ℕ → ℕ → Type 0
-Swept was ws low i carry =
+abbrev pub Swept : List ℕ → List ℕ → ℕ → ℕ → Type 0
+Swept was ws i carry =
     ((x : ℕ) → x < 64 * i → bit_at ws x ≡ odd_below (bit_at was) (suc x))
     × ((j : ℕ) → i ≤ j → get_or ws j 0 ≡ get_or was j 0)
-    × ((j : ℕ) → j < low → get_or ws j 0 ≡ 0)
     × (carry < 2)
     × (not (eqb carry 0) ≡ odd_below (bit_at was) (64 * i))
 
@@ -184,10 +170,10 @@ word_swept was ws i carry r n same lt c some le =
     ∙ xor_comm (odd_below (bit_at was) (64 * i)) (odd_below (bit (get_or was i 0)) n)
     ∙ sym (word_parity was i n le)
 
-pub swept_more : (was ws : List ℕ) (low i carry r : ℕ) → i < length ws → low ≤ i → r < 2 ^ 64 →
-    ((k : ℕ) → k < 64 → bit r k ≡ odd_below (bit (bit_xor (get_or ws i 0) carry)) (suc k)) → Swept was ws low i carry → Swept was (set ws i r) low (i + 1) (r / 2 ^ 63)
+pub swept_more : (was ws : List ℕ) (i carry r : ℕ) → i < length ws → r < 2 ^ 64 →
+    ((k : ℕ) → k < 64 → bit r k ≡ odd_below (bit (bit_xor (get_or ws i 0) carry)) (suc k)) → Swept was ws i carry → Swept was (set ws i r) (i + 1) (r / 2 ^ 63)
 unfolding bit
-swept_more was ws low i carry r lt above fits h s =
+swept_more was ws i carry r lt fits h s =
     let same = s.1 i (omega arith) in
     let top : r / 2 ^ 63 < 2 = div_below r (2 ^ 63) 2 (omega arith) (omega arith) in
     let last : 64 * i + 64 ≡ 64 * (i + 1) = omega arith in (
@@ -201,12 +187,11 @@ swept_more was ws low i carry r lt above fits h s =
                 let e : x ≡ 64 * i + k = omega arith in
                 let n : 64 * i + suc k ≡ suc x = omega arith in
                 ap (bit_at (set ws i r)) e ∙ bit_in_word (set ws i r) i k (omega arith) ∙ ap (λ w. bit w k) (get_or-set_same ws i r 0 lt) ∙ h k (omega arith)
-                ∙ word_swept was ws i carry r (suc k) same s.3 s.4 (omega arith) (omega arith) ∙ ap (odd_below (bit_at was)) n
+                ∙ word_swept was ws i carry r (suc k) same s.2 s.3 (omega arith) (omega arith) ∙ ap (odd_below (bit_at was)) n
           ],
       λ j le. let ne : j ≢ i = omega arith in get_or-set_other ws i j r 0 ne ∙ s.1 j (omega arith),
-      λ j less. let ne : j ≢ i = omega arith in get_or-set_other ws i j r 0 ne ∙ s.2 j less,
       top,
-      one_or_none (r / 2 ^ 63) top ∙ ap (λ n. eqb n 1) (sym (mod-eq_of_lt top)) ∙ h 63 (omega arith) ∙ word_swept was ws i carry r 64 same s.3 s.4 (omega arith) (omega arith)
+      one_or_none (r / 2 ^ 63) top ∙ ap (λ n. eqb n 1) (sym (mod-eq_of_lt top)) ∙ h 63 (omega arith) ∙ word_swept was ws i carry r 64 same s.2 s.3 (omega arith) (omega arith)
           ∙ ap (odd_below (bit_at was)) last,
     )
   where
@@ -215,62 +200,93 @@ swept_more was ws low i carry r lt above fits h s =
     one_or_none (suc zero) lt = refl
     one_or_none (suc (suc n)) lt = let no : ⊥ = omega arith in absurd no
 
--- before the first word: all words below are 0
-pub swept_none : (ws : List ℕ) (low high : ℕ) → Within ws low high → Swept ws ws low low 0
-swept_none ws low high w =
-    let unset : (k : ℕ) → k < 64 * low → bit_at ws k ≡ false = λ k lt. bit_unset ws k (w.1 (k / 64) (omega arith)) in (
-      λ x lt. unset x lt ∙ sym (odd_none (bit_at ws) (suc x) (λ k h. unset k (omega arith))),
-      λ j le. refl,
-      w.1,
-      omega arith,
-      sym (odd_none (bit_at ws) (64 * low) unset),
-    )
+-- the words from low up to before high are all of a row that may be set: they have its bits and its parities
+abbrev pub middle : List ℕ → ℕ → ℕ → List ℕ
+middle ws low high = take (high - low) (drop low ws)
 
--- one word more that is cut by another row
-abbrev pub Common : List ℕ → List ℕ → List ℕ → ℕ → ℕ → ℕ → Type 0
-Common was others ws low high i =
-    ((x : ℕ) → x < 64 * i → bit_at ws x ≡ (bit_at was x && bit_at others x))
-    × ((j : ℕ) → i ≤ j → get_or ws j 0 ≡ get_or was j 0)
-    × ((j : ℕ) → j < low → get_or ws j 0 ≡ 0)
-    × ((j : ℕ) → high ≤ j → get_or ws j 0 ≡ 0)
+pub length-middle : (ws : List ℕ) (low high : ℕ) → high ≤ length ws → length (middle ws low high) ≡ high - low
+length-middle ws low high le = simp (length-take, length-drop) (omega arith)
 
-pub common_none : (ws others : List ℕ) (low high : ℕ) → Within ws low high → Common ws others ws low high low
-common_none ws others low high w = (
-  λ x lt. let e = bit_unset ws x (w.1 (x / 64) (omega arith)) in e ∙ sym (ap (λ b. b && bit_at others x) e),
-  λ j le. refl,
-  w.1,
-  w.2,
-)
+pub in_middle : (ws : List ℕ) (low high k : ℕ) → k < high - low → get_or (middle ws low high) k 0 ≡ get_or ws (low + k) 0
+in_middle ws low high k lt = get_or-take (high - low) (drop low ws) k 0 lt ∙ get_or-drop low ws k 0
 
-pub common_more : (was others ws : List ℕ) (low high i : ℕ) → i < length ws → low ≤ i → i < high → Common was others ws low high i → Common was others (set ws i (bit_and (get_or ws i 0) (get_or others i 0))) low high (i + 1)
-common_more was others ws low high i lt above under s =
-    let r = bit_and (get_or ws i 0) (get_or others i 0) in (
-      λ x less.
-          elim (cases_lt x (64 * i)) [
-            | inl before ↦
-                let ne : x / 64 ≢ i = omega arith in
-                ap (λ w. bit w (x % 64)) (get_or-set_other ws i (x / 64) r 0 ne) ∙ s.0 x before
-            | inr le ↦
-                let e : x / 64 ≡ i = omega arith in
-                ap (λ n. bit (get_or (set ws i r) n 0) (x % 64)) e
-                ∙ ap (λ w. bit w (x % 64)) (get_or-set_same ws i r 0 lt)
-                ∙ bit_and_lem (get_or ws i 0) (get_or others i 0) (x % 64)
-                ∙ ap (λ w. bit w (x % 64) && bit (get_or others i 0) (x % 64)) (s.1 i (omega arith))
-                ∙ ap (λ n. bit (get_or was n 0) (x % 64) && bit (get_or others n 0) (x % 64)) (sym e)
-          ],
-      λ j le. let ne : j ≢ i = omega arith in get_or-set_other ws i j r 0 ne ∙ s.1 j (omega arith),
-      λ j less. let ne : j ≢ i = omega arith in get_or-set_other ws i j r 0 ne ∙ s.2 j less,
-      λ j le. let ne : j ≢ i = omega arith in get_or-set_other ws i j r 0 ne ∙ s.3 j le,
-    )
+bit_middle : (ws : List ℕ) (low high k : ℕ) → k < 64 * (high - low) → bit_at ws (64 * low + k) ≡ bit_at (middle ws low high) k
+bit_middle ws low high k lt =
+    let word : (64 * low + k) / 64 ≡ low + k / 64 = omega arith in
+    let place : (64 * low + k) % 64 ≡ k % 64 = omega arith in
+    ap (λ n. bit (get_or ws n 0) ((64 * low + k) % 64)) word
+    ∙ ap (bit (get_or ws (low + k / 64) 0)) place
+    ∙ sym (ap (λ w. bit w (k % 64)) (in_middle ws low high (k / 64) (omega arith)))
 
-pub common_all : (was others ws : List ℕ) (low high i : ℕ) → high ≤ i → Within was low high → Common was others ws low high i → (x : ℕ) → bit_at ws x ≡ (bit_at was x && bit_at others x)
-common_all was others ws low high i le w s x =
-    elim (cases_lt x (64 * i)) [
-      | inl lt ↦ s.0 x lt
+odd_middle : (ws : List ℕ) (low high n : ℕ) → Within ws low high → n ≤ 64 * (high - low) → odd_below (bit_at (middle ws low high)) n ≡ odd_below (bit_at ws) (64 * low + n)
+odd_middle ws low high n w le =
+    sym (odd_split (bit_at ws) (64 * low) n
+    ∙ ap (λ b. xor b (odd_below (bit_at ws) (64 * low))) (odd_same (λ k. bit_at ws (64 * low + k)) (bit_at (middle ws low high)) n (λ k lt. bit_middle ws low high k (omega arith)))
+    ∙ ap (xor (odd_below (bit_at (middle ws low high)) n)) (odd_none (bit_at ws) (64 * low) (λ k lt. bit_unset ws k (w.1 (k / 64) (omega arith))))
+    ∙ xor_false (odd_below (bit_at (middle ws low high)) n))
+
+-- a row whose middle is swept is swept as far as that goes
+pub middle_swept : (was part : List ℕ) (low high x : ℕ) → low ≤ high → Within was low high → length part ≡ high - low →
+    ((k : ℕ) → k < 64 * (high - low) → bit_at part k ≡ odd_below (bit_at (middle was low high)) (suc k)) → x < 64 * high →
+    bit_at (put_mid low (high - low) was part) x ≡ odd_below (bit_at was) (suc x)
+middle_swept was part low high x order w len swept lt =
+    let top = w.0 in
+    elim (cases_lt x (64 * low)) [
+      | inl below ↦
+          bit_unset (put_mid low (high - low) was part) x (put_before low (high - low) was part (x / 64) 0 (omega arith) (omega arith) ∙ w.1 (x / 64) (omega arith))
+          ∙ sym (odd_none (bit_at was) (suc x) (λ k less. bit_unset was k (w.1 (k / 64) (omega arith))))
       | inr ge ↦
-          let none = w.2 (x / 64) (omega arith) in
-          bit_unset ws x (s.1 (x / 64) (omega arith) ∙ none) ∙ sym (ap (λ b. b && bit_at others x) (bit_unset was x none))
+          let k = x - 64 * low in
+          let word : x / 64 - low ≡ k / 64 = omega arith in
+          let place : x % 64 ≡ k % 64 = omega arith in
+          let n : 64 * low + suc k ≡ suc x = omega arith in
+          ap (λ v. bit v (x % 64)) (put_in low (high - low) was part (x / 64) 0 (omega arith) (omega arith) (omega arith))
+          ∙ ap (λ m. bit (get_or part m 0) (x % 64)) word
+          ∙ ap (bit (get_or part (k / 64) 0)) place
+          ∙ swept k (omega arith)
+          ∙ odd_middle was low high (suc k) w (omega arith)
+          ∙ ap (odd_below (bit_at was)) n
     ]
+
+pub middle_parity : (was : List ℕ) (low high : ℕ) → low ≤ high → Within was low high → odd_below (bit_at (middle was low high)) (64 * length (middle was low high)) ≡ odd_below (bit_at was) (64 * high)
+middle_parity was low high order w =
+    let len = length-middle was low high w.0 in
+    let n : 64 * low + 64 * length (middle was low high) ≡ 64 * high = omega arith in
+    odd_middle was low high (64 * length (middle was low high)) w (omega arith) ∙ ap (odd_below (bit_at was)) n
+
+-- a row of which only the middle is written has set words there alone
+pub middle_within : (was part : List ℕ) (low high : ℕ) → low ≤ high → Within was low high → length part ≡ high - low → Within (put_mid low (high - low) was part) low high
+middle_within was part low high order w len =
+    let top = w.0 in
+    let all : length (put_mid low (high - low) was part) ≡ length was = put_length low (high - low) was part (omega arith) len in (
+      omega arith,
+      λ i lt. put_before low (high - low) was part i 0 lt (omega arith) ∙ w.1 i lt,
+      λ i ge. put_past low (high - low) was part i 0 (omega arith) len (omega arith) ∙ w.2 i ge,
+    )
+
+-- a row of which each word that may be set is cut by another row's
+pub common_all : (was others part : List ℕ) (low high x : ℕ) → low ≤ high → high ≤ length others → Within was low high → length part ≡ high - low →
+    ((i : ℕ) → i < high - low → get_or part i 0 ≡ bit_and (get_or (middle was low high) i 0) (get_or (middle others low high) i 0)) →
+    bit_at (put_mid low (high - low) was part) x ≡ (bit_at was x && bit_at others x)
+common_all was others part low high x order le w len cut =
+    let i = x / 64 in
+    let top = w.0 in
+    elim (cases_lt i low) [
+      | inl below ↦ none (put_before low (high - low) was part i 0 below (omega arith) ∙ w.1 i below) (w.1 i below)
+      | inr from ↦
+          elim (cases_lt i high) [
+            | inl inside ↦
+                let at : low + (i - low) ≡ i = omega arith in
+                ap (λ v. bit v (x % 64)) (put_in low (high - low) was part i 0 from (omega arith) (omega arith) ∙ cut (i - low) (omega arith))
+                ∙ bit_and_lem (get_or (middle was low high) (i - low) 0) (get_or (middle others low high) (i - low) 0) (x % 64)
+                ∙ ap (λ v. bit v (x % 64) && bit (get_or (middle others low high) (i - low) 0) (x % 64)) (in_middle was low high (i - low) (omega arith) ∙ ap (λ n. get_or was n 0) at)
+                ∙ ap (λ v. bit (get_or was i 0) (x % 64) && bit v (x % 64)) (in_middle others low high (i - low) (omega arith) ∙ ap (λ n. get_or others n 0) at)
+            | inr past ↦ none (put_past low (high - low) was part i 0 (omega arith) len (omega arith) ∙ w.2 i past) (w.2 i past)
+          ]
+    ]
+  where
+    none : get_or (put_mid low (high - low) was part) (x / 64) 0 ≡ 0 → get_or was (x / 64) 0 ≡ 0 → bit_at (put_mid low (high - low) was part) x ≡ (bit_at was x && bit_at others x)
+    none new old = bit_unset (put_mid low (high - low) was part) x new ∙ sym (ap (λ b. b && bit_at others x) (bit_unset was x old))
 
 -- a row with nothing set
 pub empty_within : (ws : List ℕ) (low high : ℕ) → high ≤ low → Within ws low high → (i : ℕ) → get_or ws i 0 ≡ 0
@@ -289,22 +305,13 @@ pub swept_even : (was ws : List ℕ) (low high : ℕ) → Within was low high �
 swept_even was ws low high w swept rest even x =
     elim (cases_lt x (64 * high)) [ inl lt ↦ swept x lt | inr ge ↦ bit_unset ws x (rest (x / 64) (omega arith)) ∙ even ∙ sym (odd_after was low high x w ge) ]
 
-pub swept_odd : (was ws part : List ℕ) (low high : ℕ) → Within was low high → high ≤ length ws → ((x : ℕ) → x < 64 * high → bit_at ws x ≡ odd_below (bit_at was) (suc x)) →
-    ((i : ℕ) → i < length part → get_or part i 0 ≡ 18446744073709551615) → length part ≡ length ws - high → true ≡ odd_below (bit_at was) (64 * high) →
-    (x : ℕ) → x < 64 * length ws → bit_at (put_mid high (length ws - high) ws part) x ≡ odd_below (bit_at was) (suc x)
-swept_odd was ws part low high w le swept ones len odd x lt =
+pub swept_odd : (was ws part : List ℕ) (low high len : ℕ) → Within was low high → high ≤ len → len ≤ length ws → ((x : ℕ) → x < 64 * high → bit_at ws x ≡ odd_below (bit_at was) (suc x)) →
+    ((i : ℕ) → i < length part → get_or part i 0 ≡ 18446744073709551615) → length part ≡ len - high → true ≡ odd_below (bit_at was) (64 * high) →
+    (x : ℕ) → x < 64 * len → bit_at (put_mid high (len - high) ws part) x ≡ odd_below (bit_at was) (suc x)
+swept_odd was ws part low high len w order le swept ones all odd x lt =
     elim (cases_lt x (64 * high)) [
-      | inl before ↦ ap (λ v. bit v (x % 64)) (put_before high (length ws - high) ws part (x / 64) 0 (omega arith) le) ∙ swept x before
+      | inl before ↦ ap (λ v. bit v (x % 64)) (put_before high (len - high) ws part (x / 64) 0 (omega arith) (omega arith)) ∙ swept x before
       | inr ge ↦
-          ap (λ v. bit v (x % 64)) (put_in high (length ws - high) ws part (x / 64) 0 (omega arith) (omega arith) le ∙ ones (x / 64 - high) (omega arith))
+          ap (λ v. bit v (x % 64)) (put_in high (len - high) ws part (x / 64) 0 (omega arith) (omega arith) (omega arith) ∙ ones (x / 64 - high) (omega arith))
           ∙ bit_ones (x % 64) (mod-lt x {m = 64} (omega arith)) ∙ odd ∙ sym (odd_after was low high x w ge)
     ]
-
-pub filled_within : (ws part : List ℕ) (low high : ℕ) → low ≤ high → high ≤ length ws → ((i : ℕ) → i < low → get_or ws i 0 ≡ 0) → length part ≡ length ws - high →
-    Within (put_mid high (length ws - high) ws part) low (length ws)
-filled_within ws part low high order le below l =
-    let len : length (put_mid high (length ws - high) ws part) ≡ length ws = put_length high (length ws - high) ws part (omega arith) l in (
-      omega arith,
-      λ i lt. put_before high (length ws - high) ws part i 0 (omega arith) le ∙ below i lt,
-      λ i ge. get_or_past (put_mid high (length ws - high) ws part) i 0 (omega arith),
-    )

@@ -7,10 +7,10 @@
 //     keep_common ..11100000......    and so it is cut by another row
 //     paint       ..ggg...........    grey is written where a bit is set
 //
-//     | 0 0 0 | w w w w w | 0 0 0 |   the words that a row may have set are low..high, its `Span`,
-//             low       high          so a row costs what is set in it and not its width
+//     | 0 0 0 | w w w w w | 0 0 0 | 0 0     the words that a row may have set are low..high, its span,
+//             low       high     len   N    so a row costs what is set in it and not its width
 //
-// Words are lent, all 0 before and again after `clear`.
+// A `Row` is empty when it is made and again after `clear`.
 #![tactic(auto)]
 
 pub mod painting;

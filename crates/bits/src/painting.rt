@@ -1,13 +1,32 @@
 ghost use Rattle.std.specs.Prelude.{◌≡◌, ℕ, ◌*◌, ◌^◌, ◌<◌, ◌≤◌, true, false, length, if◌then◌else◌, slice_index};
-ghost use Rattle.bits.specs.Row.{bit, bit_at, Within};
+ghost use Rattle.bits.specs.Row.{bit, bit_at};
 
-use super::row::Span;
+use crate::row::Row;
 
-// Writes grey to every dot.
-fn fill_dots(dots: &mut [u8], grey: u8)
-    ensures { (x : ℕ) → x < length dots.old → slice_index dots.new x ≡ grey }
-{
-    dots.fill(grey);
+impl<const N: usize> Row<N> {
+    // Writes grey to the dots whose bits are set: a run of full words at once, any other word by itself.
+    pub fn paint(&self, dots: &mut [u8], grey: u8)
+        requires { self.now.len < 2 ^ 32 }
+        ensures { (x : ℕ) → x < length dots.old → slice_index dots.new x ≡ (if bit_at self.now.words x then grey else slice_index dots.old x) }
+    {
+        let words = &self.words[..];
+        let width = dots.len();
+        // a run of full words is one step, so the place is counted by hand
+        let mut i = self.low;
+        while i < self.high {
+            let start = (64 * i).min(width);
+            let run = full_words(&words[i..self.high]);
+            if run > 0 {
+                let end = (64 * (i + run)).min(width);
+                dots[start..end].fill(grey);
+                i += run;
+            } else {
+                let end = (start + 64).min(width);
+                paint_word(&mut dots[start..end], words[i], grey);
+                i += 1;
+            }
+        }
+    }
 }
 
 // How many clear bits stand below the lowest set one.
@@ -26,7 +45,7 @@ fn set_bits(word: u64) -> u32
     ensures below { (k : ℕ) → k < result → bit word k ≡ true }
     ensures at { result < 64 → bit word result ≡ false }
 {
-    (word ^ u64::MAX).trailing_zeros()
+    word.trailing_ones()
 }
 
 // Writes grey to the dots whose bits are set in the word, run by run.
@@ -43,7 +62,7 @@ fn paint_word(dots: &mut [u8], word: u64, grey: u8)
         let run = set_bits(set);
         let start = from + skip as usize;
         let end = start + run as usize;
-        fill_dots(&mut dots[start.min(len)..end.min(len)], grey);
+        dots[start.min(len)..end.min(len)].fill(grey);
         if run >= 64 {
             break;
         }
@@ -52,40 +71,10 @@ fn paint_word(dots: &mut [u8], word: u64, grey: u8)
     }
 }
 
-// The first word from `from` on that is not all ones, or `high`.
-fn after_full(bits: &[u64], from: usize, high: usize) -> usize
-    requires { (from ≤ high) × (high ≤ length bits.now) }
-    ensures within { (from ≤ result) × (result ≤ high) }
-    ensures full { (i : ℕ) → from ≤ i → i < result → slice_index bits.now i ≡ 18446744073709551615 }
+// How many words stand before the first that is not all ones.
+fn full_words(words: &[u64]) -> usize
+    ensures within { result ≤ length words.now }
+    ensures full { (i : ℕ) → i < result → slice_index words.now i ≡ 18446744073709551615 }
 {
-    let mut i = from;
-    while i < high && bits[i] == u64::MAX {
-        i += 1;
-    }
-    i
-}
-
-// Writes grey to the dots of a row whose bits are set: a run of full words at once, any other word by itself.
-pub fn paint(row: &mut [u8], bits: &[u64], span: Span, grey: u8)
-    requires few { length bits.now < 2 ^ 32 }
-    requires len { length row.old ≤ 64 * length bits.now }
-    requires within { Within bits.now span.low span.high }
-    ensures { (x : ℕ) → x < length row.old → slice_index row.new x ≡ (if bit_at bits.now x then grey else slice_index row.old x) }
-{
-    let Span { low, high } = span;
-    let width = row.len();
-    let mut i = low;
-    while i < high {
-        let start = (64 * i).min(width);
-        if bits[i] == u64::MAX {
-            let next = after_full(bits, i + 1, high);
-            let end = (64 * next).min(width);
-            fill_dots(&mut row[start..end], grey);
-            i = next;
-        } else {
-            let end = (start + 64).min(width);
-            paint_word(&mut row[start..end], bits[i], grey);
-            i += 1;
-        }
-    }
+    words.iter().take_while(|word| **word == u64::MAX).count()
 }

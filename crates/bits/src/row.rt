@@ -1,37 +1,108 @@
-ghost use Rattle.std.specs.Prelude.{◌≡◌, ℕ, suc, ◌*◌, ◌<◌, ◌≤◌, not, ◌&&◌, length, ◌==◌, bit_xor, slice_index};
+ghost use Rattle.std.specs.Prelude.{◌≡◌, ℕ, suc, ◌*◌, ◌<◌, ◌≤◌, not, ◌&&◌, length, ◌==◌, nat_lt, bit_and, bit_xor, slice_index};
 ghost use Rattle.std.specs.Bool.{xor};
 ghost use Rattle.bits.specs.Row.{bit, bit_at, odd_below, Within, Empty};
 
-// The words of a row that may be set, from `low` up to before `high`.
-#[derive(Clone, Copy)]
-pub struct Span {
-    pub low: usize,
-    pub high: usize,
+use std::ops::Range;
+
+// A row of dots, 64 to a word, in the first `len` of its words. Of these only low..high may be set.
+#[derive(Drop)]
+pub struct Row<const N: usize> {
+    pub(crate) words: [u64; N],
+    pub(crate) len: usize,
+    pub(crate) low: usize,
+    pub(crate) high: usize,
+    ghost fits: { len ≤ N },
+    ghost begins: { low ≤ len },
+    ghost ends: { high ≤ len },
+    ghost within: { Within words low high },
 }
 
-// The span of a row of which no word is set.
-pub fn nothing(bits: &[u64]) -> Span
-    requires { Empty bits.now }
-    ensures value { (result.low ≡ length bits.now) × (result.high ≡ 0) }
-    ensures within { Within bits.now result.low result.high }
-{
-    Span {
-        low: bits.len(),
-        high: 0,
+impl<const N: usize> Row<N> {
+    // A row of `len` words of which none is set.
+    pub fn new(len: usize) -> Row<N>
+        requires { len ≤ N }
+        ensures len { result.len ≡ len }
+        ensures span { (result.low ≡ len) × (result.high ≡ 0) }
+        ensures empty { Empty result.words }
+    {
+        Row {
+            words: [0; N],
+            len,
+            low: len,
+            high: 0,
+        }
     }
-}
 
-// Changes the bit of dot x.
-pub fn toggle(bits: &mut [u64], x: usize, span: Span) -> Span
-    requires { (x < 64 * length bits.old) × (Within bits.old span.low span.high) }
-    ensures value { (k : ℕ) → bit_at bits.new k ≡ xor (k == x) (bit_at bits.old k) }
-    ensures within { Within bits.new result.low result.high }
-{
-    let at = x / 64;
-    bits[at] ^= 1 << (x % 64);
-    Span {
-        low: span.low.min(at),
-        high: span.high.max(at + 1),
+    // Whether dot x is one of the row's.
+    pub fn has(&self, x: usize) -> bool
+        ensures { result ≡ nat_lt x (64 * self.now.len) }
+    {
+        x / 64 < self.len
+    }
+
+    // The words of the row that may be set.
+    pub fn span(&self) -> Range<usize>
+        ensures { (result.start ≡ self.now.low) × (result.end ≡ self.now.high) }
+    {
+        self.low..self.high
+    }
+
+    // Changes the bit of dot x.
+    pub fn toggle(&mut self, x: usize)
+        requires { x < 64 * self.old.len }
+        ensures value { (k : ℕ) → bit_at self.new.words k ≡ xor (k == x) (bit_at self.old.words k) }
+        ensures len { self.new.len ≡ self.old.len }
+    {
+        let at = x / 64;
+        self.words[at] ^= 1 << (x % 64);
+        self.low = self.low.min(at);
+        self.high = self.high.max(at + 1);
+    }
+
+    // Each bit of the row becomes the parity of the bits up to it. Where that stays odd the row is set to its end.
+    pub fn sweep(&mut self)
+        ensures value { (x : ℕ) → x < 64 * self.old.len → bit_at self.new.words x ≡ odd_below (bit_at self.old.words) (suc x) }
+        ensures len { self.new.len ≡ self.old.len }
+    {
+        if self.low >= self.high {
+            return;
+        }
+        let words = &mut self.words[..];
+        if sweep_words(&mut words[self.low..self.high]) != 0 {
+            words[self.high..self.len].fill(u64::MAX);
+            self.high = self.len;
+        }
+    }
+
+    // Keeps the bits of the row that are set in `others` too.
+    pub fn keep_common(&mut self, others: &Row<N>)
+        ensures value { (x : ℕ) → bit_at self.new.words x ≡ (bit_at self.old.words x && bit_at others.now.words x) }
+        ensures len { self.new.len ≡ self.old.len }
+        ensures span { (self.new.low ≡ self.old.low) × (self.new.high ≡ self.old.high) }
+    {
+        if self.low < self.high {
+            let words = &mut self.words[..];
+            let theirs = &others.words[..];
+            keep_words(
+                &mut words[self.low..self.high],
+                &theirs[self.low..self.high],
+            );
+        }
+    }
+
+    // Makes the row empty again, for a row of `len` words.
+    pub fn clear(&mut self, len: usize)
+        requires { len ≤ N }
+        ensures len { self.new.len ≡ len }
+        ensures empty { Empty self.new.words }
+    {
+        if self.low < self.high {
+            let words = &mut self.words[..];
+            words[self.low..self.high].fill(0);
+        }
+        self.len = len;
+        self.low = len;
+        self.high = 0;
     }
 }
 
@@ -58,67 +129,26 @@ fn swept(word: u64, carry: u64) -> u64
     if carry == 0 { 0 } else { u64::MAX }
 }
 
-// Sweeps the words from `low` up to before `high`; the words below are 0. Answers the parity of all bits, 0 or 1.
-fn sweep_words(bits: &mut [u64], low: usize, high: usize) -> u64
-    requires { (low ≤ high) × (Within bits.old low high) }
-    ensures value { (x : ℕ) → x < 64 * high → bit_at bits.new x ≡ odd_below (bit_at bits.old) (suc x) }
-    ensures rest { (i : ℕ) → high ≤ i → slice_index bits.new i ≡ 0 }
-    ensures same { (i : ℕ) → i < low → slice_index bits.new i ≡ 0 }
-    ensures parity { not (result == 0) ≡ odd_below (bit_at bits.old) (64 * high) }
+// Sweeps words from an even parity on. Answers the parity of all bits, 0 or 1.
+fn sweep_words(words: &mut [u64]) -> u64
+    ensures value { (x : ℕ) → x < 64 * length words.old → bit_at words.new x ≡ odd_below (bit_at words.old) (suc x) }
+    ensures parity { not (result == 0) ≡ odd_below (bit_at words.old) (64 * length words.old) }
 {
     let mut carry = 0;
-    for i in low..high {
-        let word = swept(bits[i], carry);
-        bits[i] = word;
-        carry = word >> 63;
+    for word in words.iter_mut() {
+        *word = swept(*word, carry);
+        carry = *word >> 63;
     }
     carry
 }
 
-// Sets every word to `word`.
-fn fill_words(words: &mut [u64], word: u64)
-    ensures { (i : ℕ) → i < length words.old → slice_index words.new i ≡ word }
+// Keeps the bits of each word that are set in the other one too.
+fn keep_words(words: &mut [u64], others: &[u64])
+    requires { length words.old ≤ length others.now }
+    ensures { (i : ℕ) → i < length words.old → slice_index words.new i ≡ bit_and (slice_index words.old i) (slice_index others.now i) }
 {
-    words.fill(word);
-}
-
-// Each bit of the row becomes the parity of the bits up to it. Where that stays odd the row is set to its end.
-pub fn sweep(bits: &mut [u64], span: Span) -> Span
-    requires { Within bits.old span.low span.high }
-    ensures value { (x : ℕ) → x < 64 * length bits.old → bit_at bits.new x ≡ odd_below (bit_at bits.old) (suc x) }
-    ensures within { Within bits.new result.low result.high }
-{
-    let Span { low, high } = span;
-    if low >= high {
-        return span;
-    }
-    if sweep_words(bits, low, high) == 0 {
-        return span;
-    }
-    let end = bits.len();
-    fill_words(&mut bits[high..end], u64::MAX);
-    Span { low, high: end }
-}
-
-// Keeps the bits of the row that are set in `others` too.
-pub fn keep_common(bits: &mut [u64], others: &[u64], span: Span)
-    requires { (span.high ≤ length others.now) × (Within bits.old span.low span.high) }
-    ensures value { (x : ℕ) → bit_at bits.new x ≡ (bit_at bits.old x && bit_at others.now x) }
-    ensures within { Within bits.new span.low span.high }
-{
-    let Span { low, high } = span;
-    for i in low..high {
-        bits[i] &= others[i];
-    }
-}
-
-// Makes the row empty again.
-pub fn clear(bits: &mut [u64], span: Span)
-    requires { Within bits.old span.low span.high }
-    ensures { Empty bits.new }
-{
-    let Span { low, high } = span;
-    if low < high {
-        fill_words(&mut bits[low..high], 0);
+    // by their place: what a loop over `iter_mut().zip(others)` wrote is not known after it
+    for (i, word) in words.iter_mut().enumerate() {
+        *word &= others[i];
     }
 }

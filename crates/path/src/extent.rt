@@ -1,5 +1,5 @@
 ghost use Rattle.std.specs.Prelude.{◌≡◌, min, max, []};
-ghost use Rattle.path.specs.Reading.{points_left};
+ghost use Rattle.path.specs.Reading.{points_left, rings_left};
 ghost use Rattle.path.specs.Stored.{rings_in};
 ghost use Rattle.path.specs.Extent.{ring_top, ring_bottom, ExtentOf};
 
@@ -48,13 +48,20 @@ fn with_subpath(extent: Extent, points: Points) -> Extent
     reached
 }
 
+// The extent of the path whose subpaths these are.
+pub fn extent_ahead(path: Subpaths) -> Extent
+    ensures { ExtentOf result (rings_left path.entry) }
+{
+    let mut reached = Extent::empty();
+    for points in path {
+        reached = with_subpath(reached, points);
+    }
+    reached
+}
+
 // The extent of a stored path.
 pub fn extent_of(path: &[u64]) -> Extent
     ensures { ExtentOf result (rings_in path.now) }
 {
-    let mut reached = Extent::empty();
-    for points in Subpaths::new(path) {
-        reached = with_subpath(reached, points);
-    }
-    reached
+    extent_ahead(Subpaths::new(path))
 }

@@ -1,14 +1,11 @@
 -- Rows of dots as bytes: what stands where, one row more, and a whole band with one thing more painted.
-use Rattle.std.proofs.Common.{◌≡◌, ℕ, zero, suc, ◌+◌, ◌-◌, ◌*◌, ◌/◌, ◌%◌, ◌<◌, ◌≤◌, false, cond, List, [], ◌∷◌, ◌++◌, length, get_or, take, drop, replicate, sym, refl, ap, ◌∙◌, inl, inr, add-zero, add-suc, mul-le-mul_right, suc-mul, suc-add, zero-mul, arith, length-append, length-drop, length-take}
+use Rattle.std.proofs.Common.{◌≡◌, ℕ, zero, suc, ◌+◌, ◌-◌, ◌*◌, ◌/◌, ◌%◌, ◌<◌, ◌≤◌, cond, List, [], ◌∷◌, ◌++◌, length, get_or, take, drop, sym, refl, ap, ◌∙◌, inl, inr, add-zero, add-suc, mul-le-mul_right, suc-mul, suc-add, zero-mul, arith, length-append, length-drop, length-take}
 use borrow.Rule.Slice.PartMut.{put_mid}
-use lib.ListN.{length-replicate}
-use Rattle.bits.specs.Row.{Empty}
-use Rattle.std.proofs.lemmas.List.{get_or_append_left, get_or-append_right, get_or_at, get_or-take, get_or-drop, get_or-replicate, get_or_past, ext_get_or}
+use Rattle.std.proofs.lemmas.List.{get_or_append_left, get_or-append_right, get_or_at, get_or-take, get_or-drop, ext_get_or}
 use Rattle.std.proofs.lemmas.Nat.{div_below, mod_below, div-add-mod'}
 use Rattle.std.proofs.lemmas.Bool.{cases_lt}
 use Rattle.bits.proofs.PartLaws.{put_before, put_in, put_past}
 use Rattle.path.specs.Path.{Paint}
-use Rattle.raster.specs.Band.{PaintedBand}
 use Rattle.raster.specs.Coverage.{covers, dot_on, dot, row, rows}
 
 -- what is painted last is on top
@@ -130,39 +127,3 @@ painted_more was bytes w y n t same fits one behind ps e =
           ∙ sym (get_or-drop (n * w) was (i - n * w) 0)
           ∙ sym (get_or-append_right new (drop (n * w) was) (n * w) i 0 l past)
     ])
-
--- a band of n rows of which those from start up to before end are painted and the others have nothing to paint
-pub band_painted : (was bytes : List ℕ) (w y n start end : ℕ) (t : Paint) → length bytes ≡ length was → n * w ≤ length was →
-    ((r x : ℕ) → start ≤ r → r < end → x < w → get_or bytes (r * w + x) 0 ≡ cond (covers t x (y + r)) t.grey (get_or was (r * w + x) 0)) →
-    ((i : ℕ) → i < start * w → get_or bytes i 0 ≡ get_or was i 0) → ((i : ℕ) → end * w ≤ i → get_or bytes i 0 ≡ get_or was i 0) → end ≤ n →
-    ((r x : ℕ) → r < start → covers t x (y + r) ≡ false) → ((r x : ℕ) → end ≤ r → r < n → covers t x (y + r) ≡ false) →
-    PaintedBand was bytes w y n t
-band_painted was bytes w y n start end t same fits value before rest order over under =
-    record { dots = one; rest = behind; more = λ ps e. painted_more was bytes w y n t same fits one behind ps e }
-  where
-    one : (r x : ℕ) → r < n → x < w → get_or bytes (r * w + x) 0 ≡ cond (covers t x (y + r)) t.grey (get_or was (r * w + x) 0)
-    one r x lr lx =
-        elim (cases_lt r start) [
-          | inl early ↦ let b = row_ends r start w early in before (r * w + x) (omega arith) ∙ sym (ap (λ c. cond c t.grey (get_or was (r * w + x) 0)) (over r x early))
-          | inr from ↦
-              elim (cases_lt r end) [
-                | inl inside ↦ value r x from inside lx
-                | inr late ↦ let b = mul-le-mul_right {m = end} {n = r} w late in rest (r * w + x) (omega arith) ∙ sym (ap (λ c. cond c t.grey (get_or was (r * w + x) 0)) (under r x late lr))
-              ]
-        ]
-
-    behind : (i : ℕ) → n * w ≤ i → get_or bytes i 0 ≡ get_or was i 0
-    behind i le = let o = mul-le-mul_right {m = end} {n = n} w order in rest i (omega arith)
-
--- the front of an array of zeros
-pub zeros_length : (n : ℕ) → n ≤ 128 → length (take (n - 0) (drop 0 (replicate {A = ℕ} 128 0))) ≡ n
-zeros_length n le = let l = length-replicate {A = ℕ} 128 0 in simp (length-take, length-drop) (omega arith)
-
-pub zeros_empty : (n : ℕ) → Empty (take (n - 0) (drop 0 (replicate 128 0)))
-zeros_empty n i =
-    elim (cases_lt i (n - 0)) [
-      | inl lt ↦
-          get_or-take (n - 0) (drop 0 (replicate 128 0)) i 0 lt
-          ∙ elim (cases_lt i 128) [ inl few ↦ get_or-replicate 128 i 0 0 few | inr many ↦ get_or_past (replicate 128 0) i 0 (let l = length-replicate {A = ℕ} 128 0 in omega arith) ]
-      | inr ge ↦ get_or_past (take (n - 0) (drop 0 (replicate 128 0))) i 0 (let l = length-take (n - 0) (drop 0 (replicate {A = ℕ} 128 0)) in omega arith)
-    ]

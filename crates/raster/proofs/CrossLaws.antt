@@ -1,12 +1,9 @@
 -- Parities of crossings, edge by edge, ring by ring and path by path.
-use Rattle.std.proofs.Common.{◌≡◌, ℕ, suc, ◌-◌, ◌*◌, ◌/◌, ◌<◌, ◌≤◌, max, Bool, true, false, ◌&&◌, eqb, ltb, leb, List, [], ◌∷◌, length, get_or, take, drop, sym, refl, ap, ◌∙◌, inl, inr, arith, length-take}
+use Rattle.std.proofs.Common.{◌≡◌, ℕ, suc, ◌*◌, ◌/◌, ◌<◌, ◌≤◌, max, Bool, true, false, ◌&&◌, eqb, ltb, leb, List, [], ◌∷◌, get_or, sym, refl, ap, ◌∙◌, inl, inr, arith}
 use mathlib.Core.Bool.{xor}
-use borrow.Rule.Slice.PartMut.{put_mid}
-use Rattle.std.proofs.lemmas.List.{get_or-take, get_or_past}
 use Rattle.std.proofs.lemmas.Bool.{cases_lt}
 use Rattle.std.proofs.lemmas.Bool.Decides.{nat_tests}
-use Rattle.bits.proofs.PartLaws.{put_before, put_in, put_past}
-use Rattle.bits.specs.Row.{odd_below, bit_at, Within, Empty}
+use Rattle.bits.specs.Row.{odd_below, bit_at, Within}
 use Rattle.bits.proofs.RowLaws.{odd_toggled, bit_unset}
 use Rattle.path.specs.Path.{Point, Ring}
 use Rattle.raster.specs.Coverage.{differ, crosses, along, in_ring, in_path, in_all}
@@ -99,14 +96,3 @@ clipped_dot ws mask low high x inside w h =
   where
     unset : get_or ws (x / 64) 0 ≡ 0 → (bit_at ws x && bit_at mask x) ≡ (bit_at ws x && inside)
     unset z = let e = bit_unset ws x z in ap (λ b. b && bit_at mask x) e ∙ sym (ap (λ b. b && inside) e)
-
--- a part of an empty row, and a row of which a part is made empty
-pub part_empty : (ws : List ℕ) (n : ℕ) → Empty ws → Empty (take (n - 0) (drop 0 ws))
-part_empty ws n none i = elim (cases_lt i (n - 0)) [ inl lt ↦ get_or-take (n - 0) ws i 0 lt ∙ none i | inr ge ↦ get_or_past (take (n - 0) ws) i 0 (let l = length-take (n - 0) ws in omega arith) ]
-
-pub put_empty : (a k : ℕ) (ws part : List ℕ) → a ≤ length ws → length part ≡ k → Empty ws → Empty part → Empty (put_mid a k ws part)
-put_empty a k ws part le len none empty i =
-    elim (cases_lt i a) [
-      | inl before ↦ put_before a k ws part i 0 before le ∙ none i
-      | inr from ↦ elim (cases_lt (i - a) k) [ inl inside ↦ put_in a k ws part i 0 from (omega arith) le ∙ empty (i - a) | inr past ↦ put_past a k ws part i 0 (omega arith) len le ∙ none i ]
-    ]

@@ -4,7 +4,8 @@ use mathlib.Core.Bool.{and-false}
 use Rattle.std.proofs.lemmas.Bool.{cases_lt}
 use Rattle.path.specs.Path.{Point, Ring}
 use Rattle.raster.specs.Coverage.{differ, along, in_ring, in_path, in_all}
-use Rattle.raster.specs.Levels.{ring_top, ring_bottom, path_top, path_bottom, clips_top, clips_bottom}
+use Rattle.raster.specs.Levels.{clips_top, clips_bottom}
+use Rattle.path.specs.Extent.{ring_top, ring_bottom, path_top, path_bottom}
 use Rattle.raster.proofs.EdgeLaws.{crosses_not_below, crosses_not_above}
 
 -- one piece more of a fold, and its end
@@ -95,19 +96,4 @@ clips_under (c ∷ cs) t a b h =
             | inr outside ↦ inl outside
           ]
       | inr none ↦ inr (ap (λ v. in_path c a b && v) none ∙ and-false (in_path c a b))
-    ]
-
--- so nothing is painted there
-pub both_over : (path : List Ring) (clips : List (List Ring)) (a b : ℕ) → b < clips_top (path_top 16777216 path) clips → (in_path path a b && in_all clips a b) ≡ false
-both_over path clips a b h =
-    elim (clips_over clips (path_top 16777216 path) a b h) [
-      | inl lt ↦ ap (λ v. v && in_all clips a b) (path_over path 16777216 a b lt)
-      | inr none ↦ ap (λ v. in_path path a b && v) none ∙ and-false (in_path path a b)
-    ]
-
-pub both_under : (path : List Ring) (clips : List (List Ring)) (a b : ℕ) → clips_bottom (path_bottom 0 path) clips ≤ b → (in_path path a b && in_all clips a b) ≡ false
-both_under path clips a b h =
-    elim (clips_under clips (path_bottom 0 path) a b h) [
-      | inl le ↦ ap (λ v. v && in_all clips a b) (path_under path 0 a b le)
-      | inr none ↦ ap (λ v. in_path path a b && v) none ∙ and-false (in_path path a b)
     ]

@@ -3,11 +3,11 @@ use Rattle.std.proofs.Common.{◌≡◌, ℕ, ◌+◌, ◌*◌, ◌<◌, ◌≤�
 use mathlib.Core.Bool.{and-false}
 use Rattle.std.proofs.lemmas.Bool.{cases_lt, lt-leb, le-leb, lt-ltb, le-ltb, and_from}
 use Rattle.path.specs.Path.{Ring, Paint}
-use Rattle.path.specs.Extent.{ExtentOf}
+use Rattle.path.specs.Extent.{ExtentOf, path_top, path_bottom}
 use Rattle.path.specs.declared.extent.Extent.{Extent}
 use Rattle.raster.specs.Band.{reaches, PaintedWithin, PaintedBand}
 use Rattle.raster.specs.Coverage.{in_path, in_all, covers}
-use Rattle.raster.specs.Levels.{path_top, path_bottom, clips_top, clips_bottom}
+use Rattle.raster.specs.Levels.{clips_top, clips_bottom}
 use Rattle.raster.proofs.LevelLaws.{path_over, path_under, clips_over, clips_under}
 use Rattle.raster.proofs.BandLaws.{row_ends, painted_more}
 

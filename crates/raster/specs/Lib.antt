@@ -1,4 +1,5 @@
 pub mod Band
+pub mod Canvas
 pub mod Coverage
 pub mod Laws
 pub mod Levels

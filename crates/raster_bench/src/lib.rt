@@ -9,7 +9,8 @@ ghost use Rattle.std.specs.Prelude.{◌≡◌, true, false, ◌+◌, ◌*◌, �
 ghost use Rattle.raster.specs.Band.{PaintedBand};
 ghost use Rattle.raster.specs.Thing.{thing};
 
-use raster::band::paint_band;
+use raster::band::{Band, Canvas};
+use raster::thing::Thing;
 
 #[unsafe(no_mangle)]
 pub extern "C" fn raster_paint_band(
@@ -31,6 +32,11 @@ pub extern "C" fn raster_paint_band(
     if count * width > bytes.len() {
         return false;
     }
-    paint_band(path, clips, grey, bytes, width, first, count);
+    let band = Band {
+        width,
+        first,
+        count,
+    };
+    Canvas { bytes, band }.paint(Thing { path, clips, grey });
     true
 }

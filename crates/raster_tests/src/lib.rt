@@ -5,12 +5,30 @@
 // row below is worked out from that, and none is taken from a run.
 #![tactic(auto)]
 
+ghost use Rattle.std.specs.Prelude.{◌+◌, ◌*◌, ◌≤◌, length};
+
 #[cfg(test)]
 mod tests {
     use path::builder::{Path, PathError};
     use path::corner::Corner;
     use path::extent::Extent;
-    use raster::band::{paint_band, paint_within};
+    use raster::band::{Band, Canvas};
+    use raster::thing::Thing;
+
+    // `count` rows of `width` dots from row `first` on, in the bytes.
+    fn canvas(bytes: &mut [u8], width: usize, first: u32, count: usize) -> Canvas<'_>
+        requires len { (count * width ≤ length bytes.old) × (width ≤ 8192) }
+        requires near { first + count ≤ 65536 }
+    {
+        Canvas {
+            bytes,
+            band: Band {
+                width,
+                first,
+                count,
+            },
+        }
+    }
 
     // How many dots of a row are not white.
     fn painted_dots(row: &[u8]) -> usize {
@@ -27,15 +45,11 @@ mod tests {
     #[test]
     fn corners_on_middles(rt: HostRuntime) {
         let mut bytes = [255u8; 9];
-        paint_band(
-            &[4, 8, 8, 24, 8, 24, 24, 8, 24],
-            &[],
-            7,
-            &mut bytes,
-            3,
-            0,
-            3,
-        );
+        canvas(&mut bytes, 3, 0, 3).paint(Thing {
+            path: &[4, 8, 8, 24, 8, 24, 24, 8, 24],
+            clips: &[],
+            grey: 7,
+        });
         assert!(rt; bytes == [7, 255, 255, 255, 255, 255, 255, 255, 255]);
     }
 
@@ -43,7 +57,11 @@ mod tests {
     #[test]
     fn slope_through_middles(rt: HostRuntime) {
         let mut bytes = [255u8; 9];
-        paint_band(&[3, 8, 8, 40, 8, 8, 40], &[], 7, &mut bytes, 3, 0, 3);
+        canvas(&mut bytes, 3, 0, 3).paint(Thing {
+            path: &[3, 8, 8, 40, 8, 8, 40],
+            clips: &[],
+            grey: 7,
+        });
         assert!(rt; bytes == [7, 7, 255, 7, 255, 255, 255, 255, 255]);
     }
 
@@ -52,7 +70,11 @@ mod tests {
     #[test]
     fn slopes_between_middles(rt: HostRuntime) {
         let mut bytes = [255u8; 24];
-        paint_band(&[3, 0, 0, 128, 0, 100, 96], &[], 7, &mut bytes, 8, 0, 3);
+        canvas(&mut bytes, 8, 0, 3).paint(Thing {
+            path: &[3, 0, 0, 128, 0, 100, 96],
+            clips: &[],
+            grey: 7,
+        });
         assert!(rt;
             bytes
                 == [
@@ -66,15 +88,11 @@ mod tests {
     #[test]
     fn horizontal_edge_on_a_level(rt: HostRuntime) {
         let mut bytes = [255u8; 12];
-        paint_band(
-            &[6, 0, 0, 32, 0, 32, 24, 16, 24, 16, 48, 0, 48],
-            &[],
-            7,
-            &mut bytes,
-            3,
-            0,
-            4,
-        );
+        canvas(&mut bytes, 3, 0, 4).paint(Thing {
+            path: &[6, 0, 0, 32, 0, 32, 24, 16, 24, 16, 48, 0, 48],
+            clips: &[],
+            grey: 7,
+        });
         assert!(rt; bytes == [7, 7, 255, 7, 255, 255, 7, 255, 255, 255, 255, 255]);
     }
 
@@ -82,15 +100,11 @@ mod tests {
     #[test]
     fn band_in_the_middle(rt: HostRuntime) {
         let mut bytes = [255u8; 7];
-        paint_band(
-            &[6, 0, 0, 32, 0, 32, 24, 16, 24, 16, 48, 0, 48],
-            &[],
-            7,
-            &mut bytes,
-            3,
-            1,
-            2,
-        );
+        canvas(&mut bytes, 3, 1, 2).paint(Thing {
+            path: &[6, 0, 0, 32, 0, 32, 24, 16, 24, 16, 48, 0, 48],
+            clips: &[],
+            grey: 7,
+        });
         assert!(rt; bytes == [7, 255, 255, 7, 255, 255, 255]);
     }
 
@@ -98,15 +112,11 @@ mod tests {
     #[test]
     fn over_the_end_of_a_word(rt: HostRuntime) {
         let mut bytes = [255u8; 130];
-        paint_band(
-            &[4, 1016, 0, 1033, 0, 1033, 16, 1016, 16],
-            &[],
-            7,
-            &mut bytes,
-            130,
-            0,
-            1,
-        );
+        canvas(&mut bytes, 130, 0, 1).paint(Thing {
+            path: &[4, 1016, 0, 1033, 0, 1033, 16, 1016, 16],
+            clips: &[],
+            grey: 7,
+        });
         assert!(rt; bytes[63] == 7 && bytes[64] == 7);
         assert_eq!(rt; painted_dots(&bytes), 2);
     }
@@ -115,17 +125,13 @@ mod tests {
     #[test]
     fn first_and_last_column(rt: HostRuntime) {
         let mut bytes = [255u8; 8192];
-        paint_band(
-            &[
+        canvas(&mut bytes, 8192, 0, 1).paint(Thing {
+            path: &[
                 4, 0, 0, 9, 0, 9, 16, 0, 16, 4, 131064, 0, 131072, 0, 131072, 16, 131064, 16,
             ],
-            &[],
-            7,
-            &mut bytes,
-            8192,
-            0,
-            1,
-        );
+            clips: &[],
+            grey: 7,
+        });
         assert!(rt; bytes[0] == 7 && bytes[8191] == 7);
         assert_eq!(rt; painted_dots(&bytes), 2);
     }
@@ -134,15 +140,11 @@ mod tests {
     #[test]
     fn whole_row(rt: HostRuntime) {
         let mut bytes = [255u8; 8192];
-        paint_band(
-            &[4, 0, 0, 131072, 0, 131072, 16, 0, 16],
-            &[],
-            7,
-            &mut bytes,
-            8192,
-            0,
-            1,
-        );
+        canvas(&mut bytes, 8192, 0, 1).paint(Thing {
+            path: &[4, 0, 0, 131072, 0, 131072, 16, 0, 16],
+            clips: &[],
+            grey: 7,
+        });
         assert_eq!(rt; painted_dots(&bytes), 8192);
     }
 
@@ -150,15 +152,11 @@ mod tests {
     #[test]
     fn far_outside_the_page(rt: HostRuntime) {
         let mut bytes = [255u8; 260];
-        paint_band(
-            &[4, 16, 0, 16777215, 0, 16777215, 16777215, 16, 16777215],
-            &[],
-            7,
-            &mut bytes,
-            130,
-            700,
-            2,
-        );
+        canvas(&mut bytes, 130, 700, 2).paint(Thing {
+            path: &[4, 16, 0, 16777215, 0, 16777215, 16777215, 16, 16777215],
+            clips: &[],
+            grey: 7,
+        });
         assert!(rt; bytes[0] == 255 && bytes[1] == 7 && bytes[129] == 7 && bytes[130] == 255);
         assert_eq!(rt; painted_dots(&bytes), 258);
     }
@@ -167,7 +165,11 @@ mod tests {
     #[test]
     fn nothing_enclosed(rt: HostRuntime) {
         let mut bytes = [255u8; 9];
-        paint_band(&[1, 8, 8, 2, 0, 0, 40, 48, 0], &[], 7, &mut bytes, 3, 0, 3);
+        canvas(&mut bytes, 3, 0, 3).paint(Thing {
+            path: &[1, 8, 8, 2, 0, 0, 40, 48, 0],
+            clips: &[],
+            grey: 7,
+        });
         assert_eq!(rt; painted_dots(&bytes), 0);
     }
 
@@ -175,17 +177,13 @@ mod tests {
     #[test]
     fn hole(rt: HostRuntime) {
         let mut bytes = [255u8; 16];
-        paint_band(
-            &[
+        canvas(&mut bytes, 4, 0, 4).paint(Thing {
+            path: &[
                 4, 0, 0, 64, 0, 64, 64, 0, 64, 4, 16, 16, 48, 16, 48, 48, 16, 48,
             ],
-            &[],
-            7,
-            &mut bytes,
-            4,
-            0,
-            4,
-        );
+            clips: &[],
+            grey: 7,
+        });
         assert!(rt; bytes == [7, 7, 7, 7, 7, 255, 255, 7, 7, 255, 255, 7, 7, 7, 7, 7]);
     }
 
@@ -193,15 +191,11 @@ mod tests {
     #[test]
     fn empty_clip(rt: HostRuntime) {
         let mut bytes = [255u8; 4];
-        paint_band(
-            &[4, 0, 0, 32, 0, 32, 32, 0, 32],
-            &[0],
-            7,
-            &mut bytes,
-            2,
-            0,
-            2,
-        );
+        canvas(&mut bytes, 2, 0, 2).paint(Thing {
+            path: &[4, 0, 0, 32, 0, 32, 32, 0, 32],
+            clips: &[0],
+            grey: 7,
+        });
         assert_eq!(rt; painted_dots(&bytes), 0);
     }
 
@@ -209,17 +203,13 @@ mod tests {
     #[test]
     fn nested_clips(rt: HostRuntime) {
         let mut bytes = [255u8; 16];
-        paint_band(
-            &[4, 0, 0, 64, 0, 64, 64, 0, 64],
-            &[
+        canvas(&mut bytes, 4, 0, 4).paint(Thing {
+            path: &[4, 0, 0, 64, 0, 64, 64, 0, 64],
+            clips: &[
                 9, 4, 16, 0, 64, 0, 64, 64, 16, 64, 9, 4, 0, 0, 64, 0, 64, 32, 0, 32,
             ],
-            7,
-            &mut bytes,
-            4,
-            0,
-            4,
-        );
+            grey: 7,
+        });
         assert!(rt;
             bytes
                 == [
@@ -232,15 +222,11 @@ mod tests {
     #[test]
     fn clip_from_the_left(rt: HostRuntime) {
         let mut bytes = [255u8; 400];
-        paint_band(
-            &[4, 3200, 0, 4800, 0, 4800, 16, 3200, 16],
-            &[9, 4, 0, 0, 4000, 0, 4000, 16, 0, 16],
-            7,
-            &mut bytes,
-            400,
-            0,
-            1,
-        );
+        canvas(&mut bytes, 400, 0, 1).paint(Thing {
+            path: &[4, 3200, 0, 4800, 0, 4800, 16, 3200, 16],
+            clips: &[9, 4, 0, 0, 4000, 0, 4000, 16, 0, 16],
+            grey: 7,
+        });
         assert!(rt; bytes[199] == 255 && bytes[200] == 7 && bytes[249] == 7 && bytes[250] == 255);
         assert_eq!(rt; painted_dots(&bytes), 50);
     }
@@ -249,15 +235,11 @@ mod tests {
     #[test]
     fn clip_all_to_the_left(rt: HostRuntime) {
         let mut bytes = [255u8; 400];
-        paint_band(
-            &[4, 3200, 0, 4800, 0, 4800, 16, 3200, 16],
-            &[9, 4, 0, 0, 1600, 0, 1600, 16, 0, 16],
-            7,
-            &mut bytes,
-            400,
-            0,
-            1,
-        );
+        canvas(&mut bytes, 400, 0, 1).paint(Thing {
+            path: &[4, 3200, 0, 4800, 0, 4800, 16, 3200, 16],
+            clips: &[9, 4, 0, 0, 1600, 0, 1600, 16, 0, 16],
+            grey: 7,
+        });
         assert_eq!(rt; painted_dots(&bytes), 0);
     }
 
@@ -265,15 +247,11 @@ mod tests {
     #[test]
     fn any_words(rt: HostRuntime) {
         let mut bytes = [255u8; 4];
-        paint_band(
-            &[900, 16777216, 0, 16, 0, 16, 16, 0, 16, 5],
-            &[],
-            7,
-            &mut bytes,
-            2,
-            0,
-            2,
-        );
+        canvas(&mut bytes, 2, 0, 2).paint(Thing {
+            path: &[900, 16777216, 0, 16, 0, 16, 16, 0, 16, 5],
+            clips: &[],
+            grey: 7,
+        });
         assert!(rt; bytes == [7, 255, 255, 255]);
     }
 
@@ -310,11 +288,19 @@ mod tests {
         let used = path.used();
         assert_eq!(rt; used, 18);
         let mut bytes = [255u8; 4];
-        paint_band(path.front(used), &[], 7, &mut bytes, 2, 0, 2);
+        canvas(&mut bytes, 2, 0, 2).paint(Thing {
+            path: path.front(used),
+            clips: &[],
+            grey: 7,
+        });
         assert!(rt; bytes == [7, 255, 7, 7]);
         path.clear();
         assert_eq!(rt; path.points(), 0);
-        paint_band(path.front(used), &[], 9, &mut bytes, 2, 0, 2);
+        canvas(&mut bytes, 2, 0, 2).paint(Thing {
+            path: path.front(used),
+            clips: &[],
+            grey: 9,
+        });
         assert!(rt; bytes == [9, 255, 9, 9]);
     }
 
@@ -326,15 +312,13 @@ mod tests {
             top: 24,
             bottom: 40,
         };
-        paint_within(
-            &[4, 0, 0, 64, 0, 64, 64, 0, 64],
+        canvas(&mut bytes, 1, 0, 4).paint_within(
+            Thing {
+                path: &[4, 0, 0, 64, 0, 64, 64, 0, 64],
+                clips: &[],
+                grey: 7,
+            },
             extent,
-            &[],
-            7,
-            &mut bytes,
-            1,
-            0,
-            4,
         );
         assert!(rt; bytes == [255, 7, 255, 255]);
     }
@@ -343,24 +327,16 @@ mod tests {
     #[test]
     fn on_top(rt: HostRuntime) {
         let mut bytes = [255u8; 4];
-        paint_band(
-            &[4, 0, 0, 32, 0, 32, 32, 0, 32],
-            &[],
-            7,
-            &mut bytes,
-            2,
-            0,
-            2,
-        );
-        paint_band(
-            &[4, 16, 0, 32, 0, 32, 16, 16, 16],
-            &[],
-            9,
-            &mut bytes,
-            2,
-            0,
-            2,
-        );
+        canvas(&mut bytes, 2, 0, 2).paint(Thing {
+            path: &[4, 0, 0, 32, 0, 32, 32, 0, 32],
+            clips: &[],
+            grey: 7,
+        });
+        canvas(&mut bytes, 2, 0, 2).paint(Thing {
+            path: &[4, 16, 0, 32, 0, 32, 16, 16, 16],
+            clips: &[],
+            grey: 9,
+        });
         assert!(rt; bytes == [7, 9, 7, 7]);
     }
 }

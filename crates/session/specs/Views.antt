@@ -18,7 +18,7 @@ use Rattle.session.specs.declared.question.Reply.TheVariants.{Ended, Dots, Unans
 use Rattle.session.specs.declared.question.Reason.{Reason}
 use Rattle.session.specs.declared.question.Reason.TheVariants.{NoSuchPage, NoSuchRows}
 use Rattle.session.specs.declared.session.Session.{Session}
-use Rattle.band.specs.declared.sink.Band as rows_of_lem
+use Rattle.raster.specs.declared.band.Band as rows_of_lem
 
 abbrev pub regions_of : Session → Regions
 regions_of s = record { text = s.text.now; header = s.header.now; path = s.path.now; clips = s.clips.now; kept = s.kept.now; bytes = s.bytes.now }

@@ -7,7 +7,7 @@ ghost use Rattle.session.specs.Views.{asked_of, answer_of, Within};
 use super::layout::{CLIPS, PATH, zero_all, zero_bytes};
 use super::question::{Question, Reason, Reply};
 use band::page::run_band;
-use band::sink::Band;
+use raster::band::Band;
 use whole_machine::outside::number_of_fault;
 use whole_run::count::count_pages;
 use whole_run::drive::Ending;

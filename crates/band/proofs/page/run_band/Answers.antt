@@ -9,16 +9,14 @@ use Rattle.band.proofs.page.run_band.Goals as goal
 pub returns-then-not-shown : goal.returns-then-not-shown
 returns-then-not-shown c =
     let a = c.args in
-    let pre = c.requires in
     let job = c.run_job in
-    let end = comes_to a.band a.bytes.now c.whiten.new.bytes a.page a.steps (begin (decode a.tokens.now)) job.result _ pre.len.1 pre.near pre.len.0 c.whiten.ensures job.ensures.driven in
+    let end = comes_to a.band a.bytes.now c.whiten.new.bytes a.page a.steps (begin (decode a.tokens.now)) job.result _ c.requires.len c.whiten.ensures job.ensures.driven in
     record { shown = end.0; rows = λ h. absurd (both_ways _ c.if-not-shown.true h); none = λ _. search rules; path = job.ensures.words; clips = job.ensures.clips }
 
 -- it was
 pub returns-else-not-shown : goal.returns-else-not-shown
 returns-else-not-shown c =
     let a = c.args in
-    let pre = c.requires in
     let job = c.run_job in
-    let end = comes_to a.band a.bytes.now c.whiten.new.bytes a.page a.steps (begin (decode a.tokens.now)) job.result _ pre.len.1 pre.near pre.len.0 c.whiten.ensures job.ensures.driven in
+    let end = comes_to a.band a.bytes.now c.whiten.new.bytes a.page a.steps (begin (decode a.tokens.now)) job.result _ c.requires.len c.whiten.ensures job.ensures.driven in
     record { shown = end.0; rows = λ h. let same = end.1 h in search rules; none = λ h. absurd (both_ways _ h c.if-not-shown.false); path = job.ensures.words; clips = job.ensures.clips }

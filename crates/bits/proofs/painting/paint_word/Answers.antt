@@ -2,7 +2,7 @@ use Rattle.std.proofs.Common.{◌≡◌, ℕ, ◌+◌, ◌-◌, ◌/◌, ◌^◌
 use borrow.Rule.Slice.PartMut.{put_mid}
 use Rattle.bits.specs.Row.{bit}
 use Rattle.bits.proofs.BitLaws.{shr_less, bit_zero}
-use Rattle.bits.proofs.PartLaws.{put_length}
+use Rattle.bits.proofs.PartLaws.{put_length, filled}
 use Rattle.bits.proofs.PaintLaws.{Painted, painted_more, painted_all, rest_few, rest_bit, rest_more, run_bit, run_some}
 use Rattle.bits.proofs.painting.paint_word.Goals as goal
 
@@ -39,8 +39,8 @@ pub loop-rest-preserved : goal.loop-rest-preserved
 loop-rest-preserved c =
     let inv = c.loop-rest.invariant in
     let p =
-    run_painted c.args.word c.args.grey c.loop-rest.from c.loop-rest.rest c.clear_bits-skip.result c.set_bits-run.result c.min.result c.min-in-loop-rest.result c.args.dots.now c.loop-rest.dots c.fill_dots.new.dots
-    inv.0 (inv.1, inv.2) c.clear_bits-skip.ensures.below c.set_bits-run.ensures.below (omega arith) (omega arith) c.fill_dots.auto.dots c.fill_dots.ensures in
+    run_painted c.args.word c.args.grey c.loop-rest.from c.loop-rest.rest c.clear_bits-skip.result c.set_bits-run.result c.min.result c.min-in-loop-rest.result c.args.dots.now c.loop-rest.dots c.fill.new.self
+    inv.0 (inv.1, inv.2) c.clear_bits-skip.ensures.below c.set_bits-run.ensures.below (omega arith) (omega arith) c.fill.auto.self (filled _ c.args.grey c.fill.new.self (c.fill.ensures.after (λ y e. e))) in
     (rest_more c.args.word c.loop-rest.from c.loop-rest.rest c.clear_bits-skip.result c.set_bits-run.result inv.0, p.0, p.1)
 
 pub returns-after-loop-rest : goal.returns-after-loop-rest
@@ -54,8 +54,8 @@ returns-after-loop-rest c x lt =
 pub returns-then-run-ge64 : goal.returns-then-run-ge64
 returns-then-run-ge64 c x lt =
     let inv = c.loop-rest.invariant in
-    let all = put_length c.min.result (c.min-in-loop-rest.result - c.min.result) c.loop-rest.dots c.fill_dots.new.dots (omega arith) (c.fill_dots.auto.dots ∙ simp (length-take, length-drop) (omega arith)) in
+    let all = put_length c.min.result (c.min-in-loop-rest.result - c.min.result) c.loop-rest.dots c.fill.new.self (omega arith) (c.fill.auto.self ∙ simp (length-take, length-drop) (omega arith)) in
     let p =
-    run_painted c.args.word c.args.grey c.loop-rest.from c.loop-rest.rest c.clear_bits-skip.result c.set_bits-run.result c.min.result c.min-in-loop-rest.result c.args.dots.now c.loop-rest.dots c.fill_dots.new.dots
-    inv.0 (inv.1, inv.2) c.clear_bits-skip.ensures.below c.set_bits-run.ensures.below (omega arith) (omega arith) c.fill_dots.auto.dots c.fill_dots.ensures in
+    run_painted c.args.word c.args.grey c.loop-rest.from c.loop-rest.rest c.clear_bits-skip.result c.set_bits-run.result c.min.result c.min-in-loop-rest.result c.args.dots.now c.loop-rest.dots c.fill.new.self
+    inv.0 (inv.1, inv.2) c.clear_bits-skip.ensures.below c.set_bits-run.ensures.below (omega arith) (omega arith) c.fill.auto.self (filled _ c.args.grey c.fill.new.self (c.fill.ensures.after (λ y e. e))) in
     p.0 x (omega arith) (omega arith)

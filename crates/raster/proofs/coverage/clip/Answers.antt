@@ -9,20 +9,16 @@ pub loop-path-preserved : goal.loop-path-preserved
 loop-path-preserved c = (
   λ x.
       all_step (rings_left c.in-Some.path) (paths_left c.next.new.self) (paths_left c.loop-path.path-iterator) (16 * x + 8) c.args.level _ _ c.in-Some.ensures.steps
-      (c.keep_common.ensures.value x ∙ clipped_dot c.loop-path.bits c.cover-covered.new.bits c.args.span.low c.args.span.high x _ c.loop-path.invariant.1 (λ le lt. c.cover-covered.ensures.value x le (let l = c.requires.len.0 in omega arith)))
+      (c.keep_common.ensures.value x ∙ clipped_dot c.loop-path.row.words c.cover.new.row.words c.loop-path.row.low c.loop-path.row.high x _ c.loop-path.row.within (λ le lt. c.cover.ensures.value x (omega arith) (omega arith)))
       ∙ c.loop-path.invariant.0 x,
-  c.keep_common.ensures.within,
-  c.clear.ensures,
+  omega arith,
+  omega arith,
 )
 
 pub returns : goal.returns
 returns c =
     let begun = ap paths_left c.into_iter-path-iterator.ensures.into_iter_gives ∙ c.new-path-items.ensures in
-    record {
-      value = λ x.
-          all_none (paths_left c.loop-path.path-iterator) (16 * x + 8) c.args.level (bit_at c.loop-path.bits x) c.in-None.ensures.steps.0
-          ∙ c.loop-path.invariant.0 x
-          ∙ ap (λ cs. bit_at c.args.bits.now x && in_all cs (16 * x + 8) c.args.level) begun;
-      within = c.loop-path.invariant.1;
-      empty = c.loop-path.invariant.2;
-    }
+    λ x.
+    all_none (paths_left c.loop-path.path-iterator) (16 * x + 8) c.args.level (bit_at c.loop-path.row.words x) c.in-None.ensures.steps.0
+    ∙ c.loop-path.invariant.0 x
+    ∙ ap (λ cs. bit_at c.args.row.now.words x && in_all cs (16 * x + 8) c.args.level) begun

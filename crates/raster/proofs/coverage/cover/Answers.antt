@@ -9,12 +9,12 @@ use Rattle.raster.proofs.coverage.cover.Goals as goal
 -- an empty row has no odd place, so the parity is that of the path alone
 pub returns : goal.returns
 returns c =
-    let was = c.args.bits.now in
+    let empty = c.clear.ensures.empty in
     record {
       value = λ x le lt.
           c.sweep.ensures.value x (omega arith)
-          ∙ c.cross_path-crossings.ensures.value x le lt
-          ∙ ap (differ (in_path (rings_left c.args.path) (16 * x + 8) c.args.level)) (odd_none (bit_at was) (suc x) (λ k less. bit_unset was k (c.requires.empty (k / 64))))
+          ∙ c.cross_path.ensures.value x le (omega arith)
+          ∙ ap (differ (in_path (rings_left c.args.path) (16 * x + 8) c.args.level)) (odd_none (bit_at c.clear.new.self.words) (suc x) (λ k less. bit_unset c.clear.new.self.words k (empty (k / 64))))
           ∙ differ_false (in_path (rings_left c.args.path) (16 * x + 8) c.args.level);
-      within = c.sweep.ensures.within;
+      len = omega arith;
     }

@@ -1,11 +1,10 @@
-use Rattle.std.proofs.Common.{sym, refl}
-use Rattle.band.proofs.Painting.{paints}
+use Rattle.std.proofs.Common.{ap, ◌∙◌, rules}
+use Rattle.band.proofs.Painting.{all_fits, canvas, paints}
 use Rattle.band.proofs.sink.BandSinkSink.painted.Goals as goal
 
-pub returns-then-fits_in : goal.returns-then-fits_in
-returns-then-fits_in c =
+pub returns-then-self-eq0-clause-seen : goal.returns-then-self-eq0-clause-seen
+returns-then-self-eq0-clause-seen c own =
     let self = c.args.self.now in
-    record {
-      seen = λ own. paints self.band self.bytes.now c.paint_within.new.bytes self.before self.done c.args.path.now c.args.clips.now c.args.grey c.if-not-self.true c.if-self-eq0.true (sym c.if-fits_in.ensures) c.paint_within.auto.bytes (c.paint_within.ensures.after own);
-      lent = refl;
-    }
+    let new = c.paint_within.new.self.bytes.now in
+    let painted = paints self.band self.bytes.now new self.before self.done c.args.path.now c.args.clips.now c.args.grey c.if-not-self.true c.if-self-eq0.true (all_fits self.band _ self.fits) c.paint_within.ensures.len (c.paint_within.ensures.after own) in
+    ap (canvas self.band self.before self.done) (search rules) ∙ painted

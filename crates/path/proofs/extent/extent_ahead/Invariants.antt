@@ -1,7 +1,7 @@
 use Rattle.std.proofs.Common.{◌≡◌}
 use Rattle.path.specs.Reading.{rings_left}
 use Rattle.path.specs.Extent.{path_top, path_bottom}
-use Rattle.path.proofs.extent.extent_of.Given as goal
+use Rattle.path.proofs.extent.extent_ahead.Given as goal
 
 abbrev pub invariant-loop-points : goal.invariant-loop-points
 invariant-loop-points l =
