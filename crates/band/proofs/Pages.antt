@@ -5,9 +5,9 @@ use Rattle.std.proofs.lemmas.Bool.{lt-ltb, le-ltb, ne_eqb, cases_lt, cases_Bool,
 use Rattle.path.specs.Path.{Paint}
 use Rattle.machine.specs.Machine.{State, run}
 use Rattle.machine.specs.Laws.{state_of, begins_with}
-use Rattle.whole_machine.proofs.Showing.{longer_run}
-use Rattle.whole_run.specs.declared.drive.Ending.{Ending}
-use Rattle.whole_run.specs.Sinks.{is_stopped, all_painted, all_shown, past_of, told, Driven}
+use Rattle.machine.proofs.Showing.{longer_run}
+use Rattle.run.specs.declared.drive.Ending.{Ending}
+use Rattle.run.specs.Sinks.{is_stopped, all_painted, all_shown, past_of, told, Driven}
 use Rattle.raster.specs.declared.band.Band.{Band}
 use Rattle.band.specs.Canvas.{Canvas, fits, on_page, paint_onto, page_over}
 use Rattle.band.proofs.Painting.{size, band_rows, canvas, all_fits, white_rows, all_on_page, off_page}
@@ -52,7 +52,7 @@ done_kept (p ∷ ps) c = done_kept ps (paint_onto p c) ∙ cond_both (on_page c)
 
 -- a run for a band of page k over bytes whose rows are white at first, and what its sink has come to
 module _ (b : Band) (bs white : List ℕ) (k steps : ℕ) (s : State) (r : Ending) (after : Canvas) (few : size b ≤ length bs)
-    (whitened : white ≡ replicate (size b) 255 ++ drop (size b) bs) (d : Driven paint_onto page_over (λ c. not c.done) r steps s (canvas b k false white) after) where
+    (whitened : white ≡ replicate (size b) 255 ++ drop (size b) bs) (d : Driven run paint_onto page_over (λ c. not c.done) r steps s (canvas b k false white) after) where
   abbrev rest : List ℕ
   rest = drop (size b) bs
 

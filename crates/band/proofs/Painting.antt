@@ -6,14 +6,14 @@ use Rattle.std.proofs.lemmas.List.{append-nil, append_assoc, length-append, take
 use Rattle.std.proofs.lemmas.Bool.{lt-ltb, le-ltb, le-leb, eq-eqb, cases_lt, and_from, not_from_false, cond-true, cond-false}
 use Rattle.path.specs.Path.{Paint}
 use Rattle.path.specs.Stored.{rings_in, paths_in}
-use Rattle.whole_machine.specs.Clips.{clips_in}
-use Rattle.whole_machine.specs.Abstraction.{paint_in}
+use Rattle.machine.specs.Clips.{clips_in}
+use Rattle.machine.specs.Abstraction.{paint_in}
 use Rattle.raster.specs.Band.{PaintedBand}
 use Rattle.raster.specs.Coverage.{in_path, covers, dot_on, row, rows}
 use Rattle.raster.specs.Thing.{thing}
 use Rattle.raster.proofs.Painting.{clips_turned}
 use Rattle.raster.proofs.BandLaws.{length-rows, row_ends, painted_more}
-use Rattle.whole_run.specs.Sinks.{all_painted}
+use Rattle.run.specs.Sinks.{all_painted}
 use Rattle.raster.specs.declared.band.Band.{Band}
 use Rattle.band.specs.Canvas.{Canvas, fits, byte_after, painted, on_page, paint_onto}
 

@@ -11,7 +11,7 @@
 //
 // The rows are white at first. What the job paints on pages before is passed over, and the run is
 // left at the page's `shows`: a page that was shown stays, so the rest of the job has no say in it.
-// Nothing of the job is held but what the run itself holds (crate whole_run).
+// Nothing of the job is held but what the run itself holds (crate run).
 //
 // sink: who takes the run's events for a band. page: a run with it.
 #![tactic(auto)]

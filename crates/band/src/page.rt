@@ -6,7 +6,8 @@ ghost use Rattle.raster.specs.Coverage.{rows};
 
 use crate::sink::BandSink;
 use raster::band::Band;
-use whole_run::job::run_job;
+use run::job::run_job;
+use tokens::Whole;
 
 // the first n bytes white
 fn whiten(bytes: &mut [u8], n: usize)
@@ -42,7 +43,7 @@ pub fn run_band(
         before: page,
         done: false,
     };
-    run_job(tokens, path, clips, &mut sink, steps);
+    run_job::<Whole, BandSink<'_>>(tokens, path, clips, &mut sink, steps);
     let shown = sink.done;
     if !shown {
         bytes.fill(0);

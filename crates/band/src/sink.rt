@@ -4,7 +4,7 @@ ghost use Rattle.band.specs.Canvas.{Canvas, paint_onto, page_over};
 use path::extent::Extent;
 use raster::band::Band;
 use raster::thing::Thing;
-use whole_run::drive::Sink;
+use run::drive::Sink;
 
 // A band in lent bytes, painted as a job goes. `before` pages are still to be shown before its own; it is done when
 // that is shown, and takes no more.

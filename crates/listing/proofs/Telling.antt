@@ -5,8 +5,8 @@ use Rattle.std.proofs.lemmas.Bool.{cases_Bool, true≢false}
 use Rattle.path.specs.Path.{Paint}
 use Rattle.machine.specs.Machine.{run, State}
 use Rattle.machine.specs.Laws.{state_of}
-use Rattle.whole_run.specs.declared.drive.Ending.{Ending}
-use Rattle.whole_run.specs.Sinks.{is_stopped, all_painted, all_shown, past_of, told, Driven}
+use Rattle.run.specs.declared.drive.Ending.{Ending}
+use Rattle.run.specs.Sinks.{is_stopped, all_painted, all_shown, past_of, told, Driven}
 use Rattle.listing.specs.Lines.{thing_lines, page_line, page_lines, unshown_line, unshown_lines, listing, listing_of}
 use Rattle.listing.specs.Output.{Output, output, put_text, Wrote}
 use Rattle.listing.specs.Views.{Told, telling, mark_of, with_thing, with_shown}
@@ -55,7 +55,7 @@ marked (p ∷ ps) = refl
 
 -- a run that a listing was told of from the first, and what stands there once the mark is written
 module _ (bs : List ℕ) (steps : ℕ) (s : State) (r : Ending) (before after : Told) (end : Output) (room : length bs < 18446744073709551616) (short : steps < 18446744073709551616)
-    (first : before ≡ telling (output 0 bs) 0 false) (d : Driven with_thing with_shown (λ t. true) r steps s before after) (mark : Wrote (mark_of after) after.output end) where
+    (first : before ≡ telling (output 0 bs) 0 false) (d : Driven run with_thing with_shown (λ t. true) r steps s before after) (mark : Wrote (mark_of after) after.output end) where
   runs : is_stopped r ≡ false
   runs = elim (cases_Bool (is_stopped r)) [ inl e ↦ absurd (true≢false (d.enough e)) | inr e ↦ e ]
 

@@ -2,7 +2,7 @@ ghost use Rattle.std.specs.Prelude.{◌+◌, ◌≤◌, [], if◌then◌else◌}
 ghost use Rattle.std.specs.List.{flat_map};
 ghost use Rattle.path.specs.Points.{point_of};
 ghost use Rattle.path.specs.Reading.{points_left, rings_left, paths_left};
-ghost use Rattle.whole_machine.specs.Abstraction.{paint_in};
+ghost use Rattle.machine.specs.Abstraction.{paint_in};
 ghost use Rattle.listing.specs.Lines.{point_line, subpath_lines, path_lines, clip_lines, thing_lines, page_line, unshown_line};
 ghost use Rattle.listing.specs.Views.{Puts};
 

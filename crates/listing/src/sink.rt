@@ -4,7 +4,7 @@ ghost use Rattle.listing.specs.Views.{Told, told_of, telling, mark_of, with_thin
 
 use super::writer::Writer;
 use path::extent::Extent;
-use whole_run::drive::Sink;
+use run::drive::Sink;
 
 // A listing that is written as a job goes: what is written, how many pages were shown, and whether anything was
 // painted since the last. It holds the parts of a writer and no writer, since of lent memory that a struct in a

@@ -5,7 +5,8 @@ ghost use Rattle.machine.specs.Laws.{state_of};
 ghost use Rattle.listing.specs.Lines.{listing_of};
 
 use super::sink::ListingSink;
-use whole_run::job::run_job;
+use run::job::run_job;
+use tokens::Whole;
 
 // Lists what a job paints, and says how long the listing is, or 2^64 - 1 if it is longer. As much of it as fits stands
 // at the front of the bytes; the words for the path and the clips are 0 after.
@@ -23,7 +24,7 @@ pub fn list_things(
     ensures clips { clips.new ≡ replicate (length clips.old) 0 }
 {
     let mut sink = ListingSink::new(bytes);
-    run_job(tokens, path, clips, &mut sink, steps);
+    run_job::<Whole, ListingSink<'_>>(tokens, path, clips, &mut sink, steps);
     sink.mark();
     sink.at as u64
 }

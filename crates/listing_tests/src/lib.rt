@@ -5,7 +5,7 @@
 mod tests {
     use listing::sink::ListingSink;
     use path::extent::extent_of;
-    use whole_run::drive::Sink;
+    use run::drive::Sink;
 
     // 24 is a dot and 8 sixteenths; 16777215, the last there is, is 1048575 dots and 15. The first clip is the oldest.
     const THING: &[u8] = b"thing grey 7

@@ -1,7 +1,9 @@
 -- A run, step by step, and what a sink has seen of it.
 use Rattle.std.proofs.Common.{◌≡◌, ℕ, suc, ◌+◌, ◌-◌, ◌<◌, ◌≤◌, Bool, true, false, List, [], ◌∷◌, ◌++◌, length, sym, refl, ap, ◌∙◌, add-zero, zero-add, arith, length-append}
 use Rattle.path.specs.Path.{Paint}
-use Rattle.machine.specs.Machine.{State, Frame, on, ends, go_on, at_end}
+use Rattle.tokens.specs.Stage.{whole}
+use Rattle.machine.specs.Machine.{State, Frame, on, ends, go_on, at_end, run}
+use Rattle.machine.proofs.Staged.{whole_is_whole}
 use Rattle.machine.specs.Stage.{step_of, run_of}
 use Rattle.machine.specs.Laws.{state_of, end_of}
 use Rattle.machine.specs.Abstraction.{Past, no_past, with_painted, with_page, paint_in, state}
@@ -69,7 +71,7 @@ module _ {V : Type 0} (f : Paint → V → V) (g : V → V) where
 
   -- a run that ends at a step: what it ends with, what was seen, and that no step_of can shows more than a page
   pub closes : (can : ℕ → Bool) (more : V → Bool) (r : Ending) (n i : ℕ) (s last first : State) (v w : V) → is_stopped r ≡ false → i < n → ends (ending_number r) last ≡ step_of can s →
-      ((k : ℕ) → run_of can k s ≡ run_of can (i + k) first) → w ≡ told f g (record { paints = last.paints; pages = last.pages }) v → length last.pages ≤ i → Driven can f g more r n first v w
+      ((k : ℕ) → run_of can k s ≡ run_of can (i + k) first) → w ≡ told f g (record { paints = last.paints; pages = last.pages }) v → length last.pages ≤ i → Driven (run_of can) f g more r n first v w
   unfolding state_of end_of
   closes can more r n i s last first v w runs lt stepped is seen few =
       let at = run_ends can n i (ending_number r) s last first lt stepped is in
@@ -79,7 +81,7 @@ module _ {V : Type 0} (f : Paint → V → V) (g : V → V) where
   -- what a run has come to after i steps, where it stops or they are used up
   pub rests : (can : ℕ → Bool) (more : V → Bool) (r : Ending) (n i : ℕ) (last first : State) (v w : V) → i ≤ n → ((k : ℕ) → run_of can k last ≡ run_of can (i + k) first) →
       w ≡ told f g (record { paints = last.paints; pages = last.pages }) v → length last.pages ≤ i →
-      (is_stopped r ≡ false → (n ≤ i) × (end_of (at_end last.frames last) ≡ ending_number r)) → (is_stopped r ≡ true → more w ≡ false) → Driven can f g more r n first v w
+      (is_stopped r ≡ false → (n ≤ i) × (end_of (at_end last.frames last) ≡ ending_number r)) → (is_stopped r ≡ true → more w ≡ false) → Driven (run_of can) f g more r n first v w
   rests can more r n i last first v w le is seen few over stops =
       let at = run_here can i last first is in
       let same : last ≡ state_of (run_of can i first) = sym (at_end_state last.frames last) ∙ ap state_of at in
@@ -112,3 +114,18 @@ rested can n i last first all is = sym (at_end_state last.frames last) ∙ ap st
 module _ {X : Type 0} {G : Ghosts X} {S : stage.Ghosts X} where
   pub same_end : (m : Machine X G S) (p : Path) (t : Past) (s : State) → state m p t ≡ s → state m p (record { paints = s.paints; pages = s.pages }) ≡ s
   same_end m p t s e = ap (λ x. state m p (record { paints = x.paints; pages = x.pages })) (sym e) ∙ e
+
+-- what is known of a run of the stage of all operators is known of the whole machine's
+pub as_whole : {V : Type 0} {f : Paint → V → V} {g : V → V} {more : V → Bool} {r : Ending} {n : ℕ} {s : State} {v w : V} → Driven (run_of whole) f g more r n s v w → Driven run f g more r n s v w
+as_whole {f = f} {g = g} {n = n} {s = s} {v = v} d =
+    let at = whole_is_whole d.taken s in
+    let k = ap (λ x. length (state_of x).pages) at in
+    record {
+      taken = d.taken;
+      within = d.within;
+      seen = d.seen ∙ ap (λ x. told f g (past_of x) v) at;
+      few = (let few = d.few in omega arith);
+      whole = d.whole;
+      ended = λ h. d.ended h ∙ ap end_of (whole_is_whole n s);
+      enough = d.enough;
+    }

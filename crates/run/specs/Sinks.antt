@@ -5,7 +5,6 @@ use Rattle.tokens.specs.Stored.{operator_of}
 use Rattle.machine.specs.Machine.{State, Went}
 use Rattle.machine.specs.Laws.{state_of, end_of}
 use Rattle.machine.specs.Numbers.{fault_number, unsupported}
-use Rattle.machine.specs.Stage.{run_of}
 use Rattle.machine.specs.Abstraction.{Past}
 use Rattle.run.specs.declared.drive.Ending.{Ending}
 use Rattle.run.specs.declared.drive.Ending.TheVariants.{Finished, Failed, Unsupported, Stopped}
@@ -39,13 +38,13 @@ all_shown f g (ps ∷ pss) v = all_shown f g pss (g (all_painted f ps v))
 abbrev pub told : {V : Type 0} → (Paint → V → V) → (V → V) → Past → V → V
 told f g t v = all_painted f t.paints (all_shown f g t.pages v)
 
--- A run of a stage from a state under a count of steps, with a sink that had seen one thing before and has seen another after it: all steps are taken and it ends as
+-- A run, of a stage or of the whole machine, from a state under a count of steps, with a sink that had seen one thing before and has seen another after it: all steps are taken and it ends as
 -- the written run does, or the sink wanted no more after so many of them; in each case it was told what the run up to there has painted and shown
-pub record Driven (can : ℕ → Bool) {V : Type 0} (paint : Paint → V → V) (page : V → V) (wants : V → Bool) (r : Ending) (steps : ℕ) (s : State) (before after : V) : Type 0 where
+pub record Driven (runs : ℕ → State → Went) {V : Type 0} (paint : Paint → V → V) (page : V → V) (wants : V → Bool) (r : Ending) (steps : ℕ) (s : State) (before after : V) : Type 0 where
   pub taken : ℕ
   pub within : taken ≤ steps
-  pub seen : after ≡ told paint page (past_of (run_of can taken s)) before
-  pub few : length (state_of (run_of can taken s)).pages ≤ taken
+  pub seen : after ≡ told paint page (past_of (runs taken s)) before
+  pub few : length (state_of (runs taken s)).pages ≤ taken
   pub whole : is_stopped r ≡ false → taken ≡ steps
-  pub ended : is_stopped r ≡ false → ending_number r ≡ end_of (run_of can steps s)
+  pub ended : is_stopped r ≡ false → ending_number r ≡ end_of (runs steps s)
   pub enough : is_stopped r ≡ true → wants after ≡ false

@@ -58,7 +58,7 @@ pub fn drive<'s, 'a, S: Clipping, E: Sink>(
     sink: &mut E,
     steps: u32,
 ) -> Ending
-    ensures driven { Driven S.can E.Sink.paint E.Sink.page E.Sink.more result steps (state m.old path.old no_past) (E.Sink.view sink.old) (E.Sink.view sink.new) }
+    ensures driven { Driven (run_of S.can) E.Sink.paint E.Sink.page E.Sink.more result steps (state m.old path.old no_past) (E.Sink.view sink.old) (E.Sink.view sink.new) }
     ensures after { is_stopped result ≡ false → state m.new path.new (past_of (run_of S.can steps (state m.old path.old no_past))) ≡ state_of (run_of S.can steps (state m.old path.old no_past)) }
     ensures lent { E.Sink.lent sink.new ≡ E.Sink.lent sink.old }
 {

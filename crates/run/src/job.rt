@@ -1,6 +1,7 @@
 ghost use Rattle.std.specs.Prelude.{◌≡◌, ◌≤◌, length, replicate};
 ghost use Rattle.tokens.specs.Stored.{decode};
 ghost use Rattle.machine.specs.Machine.{begin};
+ghost use Rattle.machine.specs.Stage.{run_of};
 ghost use Rattle.run.specs.Sinks.{Driven};
 
 use crate::drive::{Ending, Sink, drive};
@@ -24,7 +25,7 @@ fn run_over<S: Clipping, E: Sink>(
     steps: u32,
 ) -> Ending
     requires { (3072 ≤ length words.old) × (S.clip_room ≤ length clips.old) }
-    ensures driven { Driven S.can E.Sink.paint E.Sink.page E.Sink.more result steps (begin (decode tokens.now)) (E.Sink.view sink.old) (E.Sink.view sink.new) }
+    ensures driven { Driven (run_of S.can) E.Sink.paint E.Sink.page E.Sink.more result steps (begin (decode tokens.now)) (E.Sink.view sink.old) (E.Sink.view sink.new) }
     ensures lent { E.Sink.lent sink.new ≡ E.Sink.lent sink.old }
 {
     let mut meanings = [None; 256];
@@ -42,7 +43,7 @@ pub fn run_job<S: Clipping, E: Sink>(
     steps: u32,
 ) -> Ending
     requires { (3072 ≤ length words.old) × (S.clip_room ≤ length clips.old) }
-    ensures driven { Driven S.can E.Sink.paint E.Sink.page E.Sink.more result steps (begin (decode tokens.now)) (E.Sink.view sink.old) (E.Sink.view sink.new) }
+    ensures driven { Driven (run_of S.can) E.Sink.paint E.Sink.page E.Sink.more result steps (begin (decode tokens.now)) (E.Sink.view sink.old) (E.Sink.view sink.new) }
     ensures words { words.new ≡ replicate (length words.old) 0 }
     ensures clips { clips.new ≡ replicate (length clips.old) 0 }
     ensures lent { E.Sink.lent sink.new ≡ E.Sink.lent sink.old }

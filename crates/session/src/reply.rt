@@ -1,5 +1,5 @@
 ghost use Rattle.std.specs.Prelude.{◌≡◌, ℕ, ◌≤◌, min, List, length, replicate, slice_index};
-ghost use Rattle.whole_run.specs.Sinks.{ending_number};
+ghost use Rattle.run.specs.Sinks.{ending_number};
 ghost use Rattle.session.specs.Jobs.{band};
 ghost use Rattle.session.specs.Regions.{regs, pages_at, ending_at, answer_in, put_answer, steps_in, width_in, height_in, says_in, next_in};
 ghost use Rattle.session.specs.Views.{asked_of, answer_of, Within};
@@ -8,9 +8,9 @@ use super::layout::{CLIPS, PATH, zero_all, zero_bytes};
 use super::question::{Question, Reason, Reply};
 use band::page::run_band;
 use raster::band::Band;
-use whole_machine::outside::number_of_fault;
-use whole_run::count::count_pages;
-use whole_run::drive::Ending;
+use machine::outside::number_of_fault;
+use run::count::count_pages;
+use run::drive::Ending;
 
 // A number of the header, cut to its limit; 0 where there is none.
 fn setting(header: &[u64], at: usize, limit: u64) -> u64

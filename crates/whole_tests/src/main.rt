@@ -13,9 +13,9 @@ use calling::report_calling;
 use graphics::report_graphics;
 use path::extent::Extent;
 use std::alloc::{AllocError, Global};
-use whole_machine::outside::number_of_fault;
-use whole_run::drive::{Ending, Sink};
-use whole_run::job::run_job;
+use machine::outside::number_of_fault;
+use run::drive::{Ending, Sink};
+use run::job::run_job;
 
 const N: u64 = 0;
 

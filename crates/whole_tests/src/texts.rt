@@ -4,9 +4,9 @@ ghost use Rattle.std.specs.Prelude.{true, []};
 use path::extent::Extent;
 use text::store_tokens;
 use tokens::Whole;
-use whole_machine::outside::number_of_fault;
-use whole_run::drive::{Ending, Sink};
-use whole_run::job::run_job;
+use machine::outside::number_of_fault;
+use run::drive::{Ending, Sink};
+use run::job::run_job;
 
 // how many steps a job may take where nothing else is said
 const PLENTY: u32 = 10000;

@@ -2,7 +2,7 @@ use Rattle.std.proofs.Common.{sym, ap, ◌∙◌}
 use Rattle.std.specs.List.{flat_map}
 use Rattle.std.proofs.lemmas.List.{reverse-reverse}
 use Rattle.path.specs.Stored.{paths_in}
-use Rattle.whole_machine.specs.Clips.{clips_in}
+use Rattle.machine.specs.Clips.{clips_in}
 use Rattle.listing.specs.Lines.{path_lines, clip_lines, thing_lines}
 use Rattle.listing.proofs.Putting.{then_put, put_as}
 use Rattle.listing.proofs.writer.Writer.put_thing.Goals as goal
