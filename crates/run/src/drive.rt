@@ -6,7 +6,7 @@ ghost use Rattle.path.specs.Stored.{rings_in};
 ghost use Rattle.machine.specs.Abstraction.{no_past, state, paint_in};
 ghost use Rattle.machine.specs.Laws.{state_of};
 ghost use Rattle.machine.specs.Stage.{run_of};
-ghost use Rattle.run.specs.Sinks.{Driven, is_stopped, past_of};
+ghost use Rattle.run.specs.Sinks.{Driven, ending_number, is_stopped, past_of};
 
 use machine::event::{Event, Fault};
 use machine::stage::Clipping;
@@ -23,6 +23,19 @@ pub enum Ending {
     Failed(Fault),
     Unsupported(Operator),
     Stopped,
+}
+
+// as it is told to the outside: 0, the number of the fault, or 9 and the number of the operator
+impl From<Ending> for u8 {
+    ghost from_gives = { λ ending n. n ≡ ending_number ending };
+
+    fn from(ending: Ending) -> u8 {
+        match ending {
+            Ending::Finished | Ending::Stopped => 0,
+            Ending::Failed(fault) => u8::from(fault),
+            Ending::Unsupported(op) => 9 + u8::from(op),
+        }
+    }
 }
 
 // What is done with what a job paints and shows; after a page a sink says whether it wants more. `lent` names the

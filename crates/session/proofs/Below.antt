@@ -3,6 +3,7 @@ use Rattle.std.proofs.Common.{◌≡◌, ℕ, zero, suc, ◌*◌, ◌<◌, ◌�
 use Rattle.std.proofs.lemmas.Bool.{lt-ltb, and_parts, and_from}
 use Rattle.tokens.specs.Token.{Token, number, does, name, quoted, body, Tokens, none, more, Operator, number_of, adds, takes, multiplies, divides, is_less, copies, drops, swaps, defines, repeats, when, moves, lines, fills, clips_by, greys, shifts, scales, keeps, back, shows, size, size_of, InRange, AllInRange}
 use Rattle.tokens.specs.Stored.{stored, all_stored}
+use Rattle.run.proofs.Numbers.{operator_small}
 use Rattle.session.specs.Promise.{all_below}
 
 pub below_append : (k : ℕ) (xs ys : List ℕ) → all_below k xs ≡ true → all_below k ys ≡ true → all_below k (xs ++ ys) ≡ true
@@ -32,30 +33,6 @@ word = 18446744073709551616
 two_below : (a b : ℕ) → a < word → b < word → all_below word (a ∷ (b ∷ [])) ≡ true
 unfolding all_below
 two_below a b h k = and_from _ _ (lt-ltb a word h) (and_from _ _ (lt-ltb b word k) refl)
-
-pub operator_small : (k : Operator) → number_of k < 32
-unfolding number_of
-operator_small adds = omega arith
-operator_small takes = omega arith
-operator_small multiplies = omega arith
-operator_small divides = omega arith
-operator_small is_less = omega arith
-operator_small copies = omega arith
-operator_small drops = omega arith
-operator_small swaps = omega arith
-operator_small defines = omega arith
-operator_small repeats = omega arith
-operator_small when = omega arith
-operator_small moves = omega arith
-operator_small lines = omega arith
-operator_small fills = omega arith
-operator_small clips_by = omega arith
-operator_small greys = omega arith
-operator_small shifts = omega arith
-operator_small scales = omega arith
-operator_small keeps = omega arith
-operator_small back = omega arith
-operator_small shows = omega arith
 
 -- two words for each token, none for a closing brace
 mutual

@@ -1,5 +1,4 @@
 ghost use Rattle.std.specs.Prelude.{◌≡◌, ℕ, ◌≤◌, min, List, length, replicate, slice_index};
-ghost use Rattle.run.specs.Sinks.{ending_number};
 ghost use Rattle.session.specs.Jobs.{band};
 ghost use Rattle.session.specs.Regions.{regs, pages_at, ending_at, answer_in, put_answer, steps_in, width_in, height_in, says_in, next_in};
 ghost use Rattle.session.specs.Views.{asked_of, answer_of, Within};
@@ -8,9 +7,8 @@ use super::layout::{CLIPS, PATH, zero_all, zero_bytes};
 use super::question::{Question, Reason, Reply};
 use band::page::run_band;
 use raster::band::Band;
-use machine::outside::number_of_fault;
 use run::count::count_pages;
-use run::drive::Ending;
+use tokens::Whole;
 
 // A number of the header, cut to its limit; 0 where there is none.
 fn setting(header: &[u64], at: usize, limit: u64) -> u64
@@ -29,16 +27,6 @@ fn steps(header: &[u64]) -> u32
     setting(header, 0, 1_000_000_000) as u32
 }
 
-// An ending as it is told to the outside.
-fn number_of_ending(ending: Ending) -> u8
-    ensures { result ≡ ending_number ending }
-{
-    match ending {
-        Ending::Finished | Ending::Stopped => 0,
-        Ending::Failed(fault) => number_of_fault(fault),
-    }
-}
-
 // How the job ends, by a run of it.
 fn end_reply(text: &[u64], header: &[u64], path: &mut [u64], clips: &mut [u64]) -> Reply
     requires { (3072 ≤ length path.old) × (3072 ≤ length clips.old) }
@@ -46,10 +34,10 @@ fn end_reply(text: &[u64], header: &[u64], path: &mut [u64], clips: &mut [u64]) 
     ensures path { path.new ≡ replicate (length path.old) 0 }
     ensures clips { clips.new ≡ replicate (length clips.old) 0 }
 {
-    let outcome = count_pages(text, path, clips, steps(header));
+    let outcome = count_pages::<Whole>(text, path, clips, steps(header));
     Reply::Ended {
         pages: outcome.pages,
-        ending: number_of_ending(outcome.ending),
+        ending: u8::from(outcome.ending),
     }
 }
 
