@@ -156,7 +156,8 @@ fn number_at<'a>(source: &'a [u8], place: usize) -> (Lexeme<'a>, usize)
     }
 }
 
-// Where a word ends whose letters begin at a byte; or the byte that is wrong, the first letter too many or what no word ends at.
+// Where a word ends whose letters begin at a byte; or the byte that is wrong: the first letter too many, or one behind the
+// letters at which no word may end.
 fn word_end(source: &[u8], start: usize) -> Result<usize, usize>
     requires { start ≤ length source.now }
     ensures { WordEnd source.now start result }
