@@ -8,7 +8,8 @@
 mod tests {
     use band::page::run_band;
     use raster::band::Band;
-    use whole_text::store_tokens;
+    use text::store_tokens;
+    use tokens::Whole;
 
     // Dots 1 and 2 of row 1 in grey 7 on a page, dot 0 of row 2 in grey 40 on the next, and then a fault.
     const TWO_PAGES: &[u8] =
@@ -23,7 +24,9 @@ mod tests {
         let mut tokens = [0u64; 256];
         let mut path = [9u64; 3072];
         let mut clips = [9u64; 3072];
-        let used = store_tokens(source, &mut tokens).unwrap_or(0).min(256);
+        let used = store_tokens::<Whole>(source, &mut tokens)
+            .unwrap_or(0)
+            .min(256);
         let band = Band {
             width: 3,
             first: 1,

@@ -1,12 +1,13 @@
 // Jobs at the edges of this stage, run by the machine; what it tells of each was written down by hand first (stdout).
 #![tactic(auto)]
 
-ghost use Rattle.std.specs.Prelude.{ℕ, ◌+◌, ◌%◌, []};
+ghost use Rattle.std.specs.Prelude.{ℕ, ◌+◌, ◌%◌, true, []};
 
-use machine::outside::number_of_fault;
+use path::extent::Extent;
 use run::drive::{Ending, Sink};
 use run::job::run_job;
 use std::alloc::{AllocError, Global};
+use tokens::Thin;
 
 const N: u64 = 0;
 
@@ -54,15 +55,18 @@ impl Sink for Tally {
 
     ghost page = { λ v. (v.0, v.1, (v.2 + 1) % 4294967296) };
 
+    ghost more = { λ v. true };
+
     ghost lent = { λ s. [] };
 
-    fn painted(&mut self, _path: &[u64], _clips: &[u64], grey: u8) {
+    fn painted(&mut self, _path: &[u64], _extent: Extent, _clips: &[u64], grey: u8) {
         self.things = self.things.wrapping_add(1);
         self.grey = grey;
     }
 
-    fn shown(&mut self) {
+    fn shown(&mut self) -> bool {
         self.pages = self.pages.wrapping_add(1);
+        true
     }
 }
 
@@ -74,7 +78,7 @@ fn report(rt: &HostRuntime, name: &str, tokens: &[u64], steps: u32) -> anyhow::R
         grey: 0,
         pages: 0,
     };
-    let ending = run_job(tokens, &mut words, &mut clips, &mut tally, steps);
+    let ending = run_job::<Thin, Tally>(tokens, &mut words, &mut clips, &mut tally, steps);
     let Tally {
         things,
         grey,
@@ -83,8 +87,9 @@ fn report(rt: &HostRuntime, name: &str, tokens: &[u64], steps: u32) -> anyhow::R
     print!(rt; "{name}: pages {pages}, things {things}, grey {grey}, ")?;
     match ending {
         Ending::Finished => println!(rt; "ending 0")?,
-        Ending::Failed(fault) => println!(rt; "ending {}", number_of_fault(fault))?,
+        Ending::Failed(fault) => println!(rt; "ending {}", u8::from(fault))?,
         Ending::Unsupported(op) => println!(rt; "operator {}", u8::from(op))?,
+        Ending::Stopped => println!(rt; "stopped")?,
     }
     Ok(())
 }

@@ -43,5 +43,5 @@ pub extern "C" fn run_count_pages(
     if words.len() < 3072 {
         return u64::MAX;
     }
-    count_pages(tokens, words, clips, steps).pages as u64
+    count_pages::<Thin>(tokens, words, clips, steps).pages as u64
 }

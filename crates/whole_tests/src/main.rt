@@ -12,10 +12,10 @@ use calculating::report_calculating;
 use calling::report_calling;
 use graphics::report_graphics;
 use path::extent::Extent;
-use std::alloc::{AllocError, Global};
-use machine::outside::number_of_fault;
 use run::drive::{Ending, Sink};
 use run::job::run_job;
+use std::alloc::{AllocError, Global};
+use tokens::Whole;
 
 const N: u64 = 0;
 
@@ -86,7 +86,7 @@ fn report(rt: &HostRuntime, name: &str, tokens: &[u64], steps: u32) -> anyhow::R
         grey: 0,
         pages: 0,
     };
-    let ending = run_job(tokens, &mut words, &mut clips, &mut tally, steps);
+    let ending = run_job::<Whole, Tally>(tokens, &mut words, &mut clips, &mut tally, steps);
     let Tally {
         things,
         grey,
@@ -95,7 +95,8 @@ fn report(rt: &HostRuntime, name: &str, tokens: &[u64], steps: u32) -> anyhow::R
     print!(rt; "{name}: pages {pages}, things {things}, grey {grey}, ")?;
     match ending {
         Ending::Finished => println!(rt; "ending 0")?,
-        Ending::Failed(fault) => println!(rt; "ending {}", number_of_fault(fault))?,
+        Ending::Failed(fault) => println!(rt; "ending {}", u8::from(fault))?,
+        Ending::Unsupported(op) => println!(rt; "operator {}", u8::from(op))?,
         Ending::Stopped => println!(rt; "stopped")?,
     }
     Ok(())

@@ -2,11 +2,10 @@
 ghost use Rattle.std.specs.Prelude.{true, []};
 
 use path::extent::Extent;
-use text::store_tokens;
-use tokens::Whole;
-use machine::outside::number_of_fault;
 use run::drive::{Ending, Sink};
 use run::job::run_job;
+use text::store_tokens;
+use tokens::Whole;
 
 // how many steps a job may take where nothing else is said
 const PLENTY: u32 = 10000;
@@ -62,7 +61,7 @@ fn print_run(rt: &HostRuntime, tokens: &[u64], steps: u32) -> anyhow::Result<()>
         clips: 0,
         pages: 0,
     };
-    let ending = run_job(tokens, &mut words, &mut clips, &mut last, steps);
+    let ending = run_job::<Whole, Last>(tokens, &mut words, &mut clips, &mut last, steps);
     let Last {
         things,
         grey,
@@ -74,7 +73,7 @@ fn print_run(rt: &HostRuntime, tokens: &[u64], steps: u32) -> anyhow::Result<()>
     print!(rt; "pages {pages}, things {things}, grey {grey}, at {x} {y}, clip words {clips}, ")?;
     match ending {
         Ending::Finished => println!(rt; "ending 0")?,
-        Ending::Failed(fault) => println!(rt; "ending {}", number_of_fault(fault))?,
+        Ending::Failed(fault) => println!(rt; "ending {}", u8::from(fault))?,
         _ => println!(rt; "another ending")?,
     }
     Ok(())
