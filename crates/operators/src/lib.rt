@@ -5,13 +5,13 @@
 // machine's `operate`: it looks at its operands from the top down, refuses in the order of the
 // definitions, and changes the machine only when nothing is refused any more.
 //
-// arithmetic, stack, calling, drawing, graphics: the operators. perform: which does what. stepping: a step.
+// arithmetic, operands, calling, drawing, graphics: the operators. perform: which does what. stepping: a step.
 #![tactic(auto)]
 
 mod arithmetic;
 mod calling;
 mod drawing;
 mod graphics;
+mod operands;
 mod perform;
-mod stack;
 pub mod stepping;

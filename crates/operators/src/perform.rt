@@ -9,7 +9,7 @@ use crate::arithmetic::{add, compare, divide, multiply, subtract};
 use crate::calling::{branch, define, repeat};
 use crate::drawing::{line_to, move_to, paint_path, show_page};
 use crate::graphics::{change_grey, change_scale, clip, shift};
-use crate::stack::{copy, discard, swap};
+use crate::operands::{copy, discard, swap};
 use machine::event::{Event, Fault};
 use machine::stage::Clipping;
 use machine::state::Machine;

@@ -1,5 +1,6 @@
 -- A run, step by step, and what a sink has seen of it.
-use Rattle.std.proofs.Common.{◌≡◌, ℕ, suc, ◌+◌, ◌-◌, ◌<◌, ◌≤◌, Bool, true, false, List, [], ◌∷◌, ◌++◌, length, sym, refl, ap, ◌∙◌, add-zero, zero-add, arith, length-append}
+use Rattle.std.proofs.Common.{◌≡◌, ℕ, suc, ◌+◌, ◌-◌, ◌<◌, ◌≤◌, Bool, true, false, List, [], ◌∷◌, ◌++◌, length, sym, refl, ap, ◌∙◌, add-zero, zero-add, inl, inr, arith, length-append}
+use Rattle.std.proofs.lemmas.Bool.{cases_Bool}
 use Rattle.path.specs.Path.{Paint}
 use Rattle.tokens.specs.Stage.{whole}
 use Rattle.machine.specs.Machine.{State, Frame, on, ends, go_on, at_end, run}
@@ -46,6 +47,10 @@ at_end_state (f ∷ fs) s = refl
 -- a test has one outcome
 pub never : {P : Type 0} {b : Bool} → b ≡ false → b ≡ true → P
 never e f = let z : ◌≡◌ {A = ℕ} 0 1 = cc in absurd (omega arith)
+
+-- a sink that always wants more is never left before the end
+pub goes_on : (r : Ending) → (is_stopped r ≡ true → true ≡ false) → is_stopped r ≡ false
+goes_on r h = elim (cases_Bool (is_stopped r)) [ inl e ↦ never {b = true} (h e) refl | inr runs ↦ runs ]
 
 module _ {V : Type 0} (f : Paint → V → V) (g : V → V) where
   painted_more : (ps : List Paint) (p : Paint) (v : V) → all_painted f (ps ++ (p ∷ [])) v ≡ f p (all_painted f ps v)

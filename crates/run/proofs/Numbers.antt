@@ -1,5 +1,5 @@
 -- The numbers of operators are small.
-use Rattle.std.proofs.Common.{ℕ, ◌<◌, arith}
+use Rattle.std.proofs.Common.{◌<◌, arith}
 use Rattle.tokens.specs.Token.{Operator, number_of, adds, takes, multiplies, divides, is_less, copies, drops, swaps, defines, repeats, when, moves, lines, fills, clips_by, greys, shifts, scales, keeps, back, shows}
 
 pub operator_small : (k : Operator) → number_of k < 32

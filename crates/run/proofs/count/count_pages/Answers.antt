@@ -1,14 +1,12 @@
-use Rattle.std.proofs.Common.{◌≡◌, ℕ, ◌+◌, ◌%◌, ◌<◌, ◌≤◌, true, false, List, [], ◌∷◌, length, refl, ap, ◌∙◌, inl, inr, arith}
+use Rattle.std.proofs.Common.{◌≡◌, ℕ, ◌+◌, ◌%◌, ◌<◌, ◌≤◌, List, [], ◌∷◌, length, refl, ap, ◌∙◌, arith}
 use Rattle.tokens.specs.Stored.{decode}
 use Rattle.path.specs.Path.{Paint}
 use Rattle.machine.specs.Machine.{begin}
 use Rattle.machine.specs.Laws.{state_of}
 use Rattle.machine.specs.Stage.{run_of}
 use Rattle.machine.specs.Abstraction.{Past}
-use Rattle.std.proofs.lemmas.Bool.{cases_Bool}
-use Rattle.run.specs.declared.drive.Ending.{Ending}
-use Rattle.run.specs.Sinks.{is_stopped, past_of, all_painted, all_shown, told}
-use Rattle.run.proofs.Driving.{never}
+use Rattle.run.specs.Sinks.{past_of, all_painted, all_shown, told}
+use Rattle.run.proofs.Driving.{goes_on}
 use Rattle.run.proofs.count.count_pages.Goals as goal
 
 abbrev paint : Paint → ℕ → ℕ
@@ -43,10 +41,6 @@ exact k n t e few small =
     let many = counted t.pages 0 in
     let less = below t.pages 0 (omega arith) in
     omega arith
-
--- a sink that always wants more is never left before the end
-goes_on : (r : Ending) → (is_stopped r ≡ true → true ≡ false) → is_stopped r ≡ false
-goes_on r h = elim (cases_Bool (is_stopped r)) [ inl e ↦ never {b = true} (h e) refl | inr runs ↦ runs ]
 
 pub returns : goal.returns
 returns g c =

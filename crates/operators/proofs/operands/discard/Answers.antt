@@ -1,7 +1,7 @@
 use Rattle.std.proofs.Common.{sym, ap, ◌∙◌}
 use Rattle.machine.specs.Machine.{on, with_stack, top_one, operate}
 use Rattle.machine.specs.Abstraction.{state}
-use Rattle.operators.proofs.stack.discard.Goals as goal
+use Rattle.operators.proofs.operands.discard.Goals as goal
 
 pub returns-in_default : goal.returns-in_default
 unfolding operate top_one

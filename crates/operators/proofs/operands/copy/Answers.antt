@@ -1,7 +1,7 @@
 use Rattle.std.proofs.Common.{◌∷◌, sym, ap, ◌∙◌}
 use Rattle.machine.specs.Machine.{push, top_one, operate}
 use Rattle.machine.specs.Abstraction.{state, value_of}
-use Rattle.operators.proofs.stack.copy.Goals as goal
+use Rattle.operators.proofs.operands.copy.Goals as goal
 
 pub returns-in_default : goal.returns-in_default
 unfolding operate top_one

@@ -1,7 +1,7 @@
 use Rattle.std.proofs.Common.{List, ◌∷◌, set, sym, ap, ◌∙◌}
 use Rattle.machine.specs.Machine.{State, Value, Went, on, with_stack, top_two, operate}
 use Rattle.machine.specs.Abstraction.{state, value_of}
-use Rattle.operators.proofs.stack.swap.Goals as goal
+use Rattle.operators.proofs.operands.swap.Goals as goal
 
 abbrev swapped : State → List Value → Went
 swapped s vs = top_two s vs (λ a b us. on (with_stack s (a ∷ (b ∷ us))))

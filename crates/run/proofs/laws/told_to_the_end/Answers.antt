@@ -1,0 +1,12 @@
+use Rattle.std.proofs.Common.{length, ap, ◌∙◌, arith}
+use Rattle.machine.specs.Laws.{state_of}
+use Rattle.run.specs.Sinks.{past_of, told}
+use Rattle.run.proofs.Driving.{goes_on}
+use Rattle.run.proofs.laws.told_to_the_end.Goals as goal
+
+pub returns : goal.returns
+returns g c = λ runs r n s v w d.
+    let all = d.whole (goes_on r d.enough) in
+    let few = d.few in
+    let k = ap (λ m. length (state_of (runs m s)).pages) all in
+    (d.ended (goes_on r d.enough), d.seen ∙ ap (λ m. told g.E.Sink.paint g.E.Sink.page (past_of (runs m s)) v) all, omega arith)
