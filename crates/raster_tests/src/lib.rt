@@ -274,6 +274,10 @@ mod tests {
         Ok(())
     }
 
+    fn paint_two_rows(bytes: &mut [u8; 4], path: &[u64], clips: &[u64], grey: u8) {
+        canvas(bytes, 2, 0, 2).paint(Thing { path, clips, grey });
+    }
+
     // A path that is built point by point, painted, emptied and painted again: its words still stand there.
     #[test]
     fn built_in_place(rt: HostRuntime) {
@@ -288,19 +292,11 @@ mod tests {
         let used = path.used();
         assert_eq!(rt; used, 18);
         let mut bytes = [255u8; 4];
-        canvas(&mut bytes, 2, 0, 2).paint(Thing {
-            path: path.front(used),
-            clips: &[],
-            grey: 7,
-        });
+        paint_two_rows(&mut bytes, path.front(used), &[], 7);
         assert!(rt; bytes == [7, 255, 7, 7]);
         path.clear();
         assert_eq!(rt; path.points(), 0);
-        canvas(&mut bytes, 2, 0, 2).paint(Thing {
-            path: path.front(used),
-            clips: &[],
-            grey: 9,
-        });
+        paint_two_rows(&mut bytes, path.front(used), &[], 9);
         assert!(rt; bytes == [9, 255, 9, 9]);
     }
 
