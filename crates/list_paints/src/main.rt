@@ -1,12 +1,12 @@
 // Lists what a job paints: page by page each thing with its grey, its clips, its subpaths and its points.
 #![tactic(auto)]
 
-use failure::Failure;
+use failure::{Failure, end, number, read_job, unknown};
 use session::paints::list_paints;
 use std::alloc::{AllocError, Global};
-use std::io::{Read, Write};
+use std::io::Write;
 use std::process::ExitCode;
-use std::{env, fs, io};
+use std::{env, io};
 use text::refusal::Refusal;
 
 const USAGE: &str = "list_paints [--steps N] FILE
@@ -35,83 +35,33 @@ struct Options {
     help: bool,
 }
 
-// What the next word of the command line is.
-#[derive(Clone, Copy)]
-enum Expected {
-    Program,
-    Word,
-    Steps,
-}
-
-fn number(heap: Global, text: &str) -> Result<u64, Failure> {
-    if let Ok(n) = text.parse::<u64>() {
-        if n <= 1_000_000_000 {
-            return Ok(n);
-        }
-    }
-    Err(Failure::Said(format!(in heap;
-        "--steps takes a whole number from 0 to 1000000000, not '{text}'"
-    )?))
-}
-
-// One word of the command line, and what is expected behind it.
-fn take_word(
-    heap: Global,
-    o: &mut Options,
-    expected: Expected,
-    word: String,
-) -> Result<Expected, Failure> {
-    match expected {
-        Expected::Program => {}
-        Expected::Steps => o.steps = number(heap, word.as_str())?,
-        Expected::Word => match word.as_str() {
-            "--steps" => return Ok(Expected::Steps),
-            "--help" => o.help = true,
-            _ => {
-                if word.as_str().starts_with("--") {
-                    return Err(Failure::Said(format!(in heap;
-                        "unknown option {word}: --help lists the options"
-                    )?));
-                }
-                if o.file.is_some() {
-                    return Err(Failure::Said(String::from_str(
-                        heap,
-                        "more than one FILE: --help says how it is called",
-                    )?));
-                }
-                o.file = Some(word);
-            }
-        },
-    }
-    Ok(Expected::Word)
-}
-
 fn command_line(rt: &HostRuntime) -> Result<Options, Failure> {
+    let heap = rt.alloc();
     let mut o = Options {
         steps: 1_000_000_000,
         file: None,
         help: false,
     };
-    let mut expected = Expected::Program;
-    for word in env::args(rt)? {
-        expected = take_word(rt.alloc(), &mut o, expected, word)?;
+    let mut words = env::args(rt)?;
+    // the program's name
+    words.next();
+    while let Some(word) = words.next() {
+        match word.as_str() {
+            "--steps" => {
+                let lacking = Failure::Told("--steps lacks its number, as in --steps 1000");
+                let text = words.next().ok_or(lacking)?;
+                o.steps = number(heap, "--steps", &text, 0, 1_000_000_000)?;
+            }
+            "--help" => o.help = true,
+            option if option.starts_with("--") => return Err(unknown(heap, option)),
+            _ => {
+                if o.file.replace(word).is_some() {
+                    return Err(Failure::Told("more than one FILE: --help says how it is called"));
+                }
+            }
+        }
     }
-    match expected {
-        Expected::Steps => Err(Failure::Said(String::from_str(
-            rt.alloc(),
-            "--steps lacks its number, as in --steps 1000",
-        )?)),
-        _ => Ok(o),
-    }
-}
-
-fn job(rt: &HostRuntime, file: &str) -> io::Result<Vec<u8>> {
-    if file == "-" {
-        let mut bytes = Vec::new(rt.alloc());
-        rt.stdin().read_to_end(&mut bytes)?;
-        return Ok(bytes);
-    }
-    fs::read(rt, file)
+    Ok(o)
 }
 
 // Why a job is not listed.
@@ -156,24 +106,11 @@ fn run(rt: &HostRuntime) -> Result<(), Failure> {
         println!(rt; "{USAGE}")?;
         return Ok(());
     }
-    let Some(file) = file else {
-        return Err(Failure::Said(String::from_str(
-            rt.alloc(),
-            "no FILE: --help says how it is called",
-        )?));
-    };
-    match job(rt, file.as_str()) {
-        Ok(bytes) => print_listing(rt, bytes.as_slice(), steps),
-        Err(e) => Err(Failure::Said(format!(in rt.alloc(); "cannot read {file}: {e}")?)),
-    }
+    let file = file.ok_or(Failure::Told("no FILE: --help says how it is called"))?;
+    let bytes = read_job(rt, file.as_str(), "")?;
+    print_listing(rt, bytes.as_slice(), steps)
 }
 
 fn main(rt: HostRuntime) -> io::Result<ExitCode> {
-    match run(&rt) {
-        Ok(()) => Ok(ExitCode::SUCCESS),
-        Err(e) => {
-            eprintln!(rt; "list_paints: {e}")?;
-            Ok(ExitCode::FAILURE)
-        }
-    }
+    end(&rt, "list_paints", run(&rt))
 }

@@ -1,13 +1,14 @@
 // Reads a job from a file or standard input, and says how many tokens it has, or by which number and at which place it is refused.
 #![tactic(auto)]
 
-ghost use Rattle.std.specs.Prelude.{◌≤◌, IfOk};
+ghost use Rattle.std.specs.Prelude.{◌≤◌};
+ghost use Rattle.std.specs.Vec.Iter.{into_iter_len};
 
-use failure::Failure;
+use failure::{Failure, end, number, read_job, unknown};
 use std::alloc::Global;
-use std::io::Read;
+use std::env::Args;
 use std::process::ExitCode;
-use std::{env, fs, io};
+use std::{env, io};
 use text::count_tokens;
 use tokens::Thin;
 
@@ -25,63 +26,37 @@ Pages are not printed yet: width and height are checked and no more.";
 // What the command line asks for.
 #[derive(Drop)]
 struct Options {
-    width: u32,
-    height: u32,
+    width: u64,
+    height: u64,
     file: String,
     help: bool,
     ghost wide: { (1 ≤ width) × (width ≤ 8192) },
     ghost tall: { (1 ≤ height) × (height ≤ 65535) },
 }
 
-// What the next word of the command line is.
-#[derive(Clone, Copy)]
-enum Expected {
-    Program,
-    Word,
-    Width,
-    Height,
-}
-
-// A number that stands behind an option, from 1 to its limit.
-fn number(heap: Global, option: &str, text: &str, limit: u32) -> Result<u32, Failure>
-    ensures { IfOk result (λ n. (1 ≤ n) × (n ≤ limit)) }
-{
-    if let Ok(n) = text.parse::<u32>() {
-        if n >= 1 && n <= limit {
-            return Ok(n);
-        }
-    }
-    Err(Failure::Said(format!(in heap;
-        "{option} takes a whole number from 1 to {limit}, not '{text}'"
-    )?))
-}
-
-// One word of the command line, and what is expected behind it.
+// One word of the command line, with the number behind it where it takes one.
 fn take_word(
     heap: Global,
     o: &mut Options,
-    expected: Expected,
     word: String,
-) -> Result<Expected, Failure> {
-    match expected {
-        Expected::Program => {}
-        Expected::Width => o.width = number(heap, "--width", word.as_str(), 8192)?,
-        Expected::Height => o.height = number(heap, "--height", word.as_str(), 65535)?,
-        Expected::Word => match word.as_str() {
-            "--width" => return Ok(Expected::Width),
-            "--height" => return Ok(Expected::Height),
-            "--help" => o.help = true,
-            _ => {
-                if word.as_str().starts_with("--") {
-                    return Err(Failure::Said(format!(in heap;
-                        "unknown option {word}: --help lists the options"
-                    )?));
-                }
-                o.file = word;
-            }
-        },
+    rest: &mut Args,
+) -> Result<(), Failure>
+    ensures { into_iter_len rest.new ≤ into_iter_len rest.old }
+{
+    match word.as_str() {
+        "--width" => {
+            let lacking = Failure::Told("--width lacks its number, as in --width 64");
+            o.width = number(heap, "--width", &rest.next().ok_or(lacking)?, 1, 8192)?;
+        }
+        "--height" => {
+            let lacking = Failure::Told("--height lacks its number, as in --height 64");
+            o.height = number(heap, "--height", &rest.next().ok_or(lacking)?, 1, 65535)?;
+        }
+        "--help" => o.help = true,
+        option if option.starts_with("--") => return Err(unknown(heap, option)),
+        _ => o.file = word,
     }
-    Ok(Expected::Word)
+    Ok(())
 }
 
 fn command_line(rt: &HostRuntime) -> Result<Options, Failure> {
@@ -92,30 +67,13 @@ fn command_line(rt: &HostRuntime) -> Result<Options, Failure> {
         file: String::from_str(heap, "-")?,
         help: false,
     };
-    let mut expected = Expected::Program;
-    for word in env::args(rt)? {
-        expected = take_word(heap, &mut o, expected, word)?;
+    let mut words = env::args(rt)?;
+    // the program's name
+    words.next();
+    while let Some(word) = words.next() {
+        take_word(heap, &mut o, word, &mut words)?;
     }
-    match expected {
-        Expected::Width => Err(Failure::Said(String::from_str(
-            heap,
-            "--width lacks its number, as in --width 64",
-        )?)),
-        Expected::Height => Err(Failure::Said(String::from_str(
-            heap,
-            "--height lacks its number, as in --height 64",
-        )?)),
-        _ => Ok(o),
-    }
-}
-
-fn job(rt: &HostRuntime, file: &str) -> io::Result<Vec<u8>> {
-    if file == "-" {
-        let mut bytes = Vec::new(rt.alloc());
-        rt.stdin().read_to_end(&mut bytes)?;
-        return Ok(bytes);
-    }
-    fs::read(rt, file)
+    Ok(o)
 }
 
 fn print_answer(rt: &HostRuntime, source: &[u8]) -> io::Result<()> {
@@ -131,22 +89,11 @@ fn run(rt: &HostRuntime) -> Result<(), Failure> {
         println!(rt; "{USAGE}")?;
         return Ok(());
     }
-    match job(rt, o.file.as_str()) {
-        Ok(bytes) => print_answer(rt, bytes.as_slice())?,
-        Err(e) => {
-            let file = o.file.as_str();
-            return Err(Failure::Said(format!(in rt.alloc(); "cannot read {file}: {e}")?));
-        }
-    }
+    let bytes = read_job(rt, o.file.as_str(), "")?;
+    print_answer(rt, bytes.as_slice())?;
     Ok(())
 }
 
 fn main(rt: HostRuntime) -> io::Result<ExitCode> {
-    match run(&rt) {
-        Ok(()) => Ok(ExitCode::SUCCESS),
-        Err(e) => {
-            eprintln!(rt; "print_job: {e}")?;
-            Ok(ExitCode::FAILURE)
-        }
-    }
+    end(&rt, "print_job", run(&rt))
 }
