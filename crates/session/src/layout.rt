@@ -32,26 +32,3 @@ pub(super) fn words_left(lent: usize, tokens: usize, kept: u64) -> Option<u128>
     let asked = 2 * tokens as u128 + (HEADER + PATH + CLIPS) as u128 + kept as u128;
     (lent as u128).checked_sub(asked)
 }
-
-pub(super) fn zero_words(words: &mut [u64])
-    ensures { words.new ≡ replicate (length words.old) 0 }
-{
-    words.fill(0);
-}
-
-pub(super) fn zero_bytes(bytes: &mut [u8])
-    ensures { bytes.new ≡ replicate (length bytes.old) 0 }
-{
-    bytes.fill(0);
-}
-
-// What a refusal leaves in the regions that a run and its rows have.
-pub(super) fn zero_all(path: &mut [u64], clips: &mut [u64], bytes: &mut [u8])
-    ensures path { path.new ≡ replicate (length path.old) 0 }
-    ensures clips { clips.new ≡ replicate (length clips.old) 0 }
-    ensures bytes { bytes.new ≡ replicate (length bytes.old) 0 }
-{
-    zero_words(path);
-    zero_words(clips);
-    zero_bytes(bytes);
-}

@@ -7,7 +7,7 @@ ghost use Rattle.machine.specs.Laws.{state_of};
 ghost use Rattle.listing.specs.Lines.{listing_of};
 ghost use Rattle.session.specs.Listed.{listed_by, ListedAs, Judged};
 
-use super::layout::{CLIPS, PATH, words_left, zero_words};
+use super::layout::{CLIPS, PATH, words_left};
 use listing::things::list_things;
 use text::refusal::Refusal;
 use text::{count_tokens, store_tokens};
@@ -50,7 +50,7 @@ fn list_stored(words: &mut [u64], used: usize, bytes: &mut [u8], steps: u32) -> 
     let (text, work) = words.split_at_mut(used);
     let (path, clips) = work.split_at_mut(PATH);
     let length = list_things(text, path, clips, bytes, steps);
-    zero_words(words);
+    words.fill(0);
     length
 }
 
