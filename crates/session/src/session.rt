@@ -6,7 +6,7 @@ ghost use Rattle.session.specs.Promise.{Serves};
 ghost use Rattle.session.specs.Regions.{regs, Shaped, says_in, next_in, the_printer};
 ghost use Rattle.session.specs.Views.{regions_of, memory_of, asked_of, answer_of, order_of, opened_of, Admitted, OpenedRight};
 
-use super::layout::{CLIPS, HEADER, PATH, ROWS, in_range, words_left};
+use super::layout::{CLIPS, HEADER, PATH, ROWS, enough, in_range, words_asked};
 use super::order::{Order, Refused};
 use super::question::{Question, Reply};
 use text::refusal::Refusal;
@@ -66,16 +66,9 @@ fn admit(source: &[u8], order: Order, words: usize, bytes: usize) -> Result<(), 
     ensures { Admitted result (order_of source.now order words bytes) (read whole source.now) }
 {
     let tokens = count_tokens::<Whole>(source)?;
-    let Some(order) = in_range(order) else {
-        return Err(Refusal::TooLarge { place: 0 });
-    };
-    let Some(_) = words_left(words, tokens, order.kept) else {
-        return Err(Refusal::TooLittleMemory { place: 0 });
-    };
-    let Some(_) = bytes.checked_sub(ROWS * order.width as usize) else {
-        return Err(Refusal::TooLittleMemory { place: 1 });
-    };
-    Ok(())
+    in_range(order)?;
+    enough(words, words_asked(tokens, order.kept), 0)?;
+    enough(bytes, ROWS as u128 * order.width as u128, 1)
 }
 
 // Opens a job over lent memory, or refuses it by the first number that applies and gives the memory back as it was.
