@@ -1,5 +1,5 @@
 ghost use Rattle.std.specs.Prelude.{◌≡◌, ℕ, ◌+◌, ◌-◌, ◌*◌, ◌<◌, ◌≤◌, List, [], ◌++◌, length, take, drop, IfOk, Ok, Err, slice_index_or};
-ghost use Rattle.raster.specs.Coverage.{rows};
+ghost use Rattle.raster.specs.Coverage.{rows as painted};
 ghost use Rattle.session.specs.Jobs.{Job, shown};
 ghost use Rattle.session.specs.Promise.{Serves};
 ghost use Rattle.session.specs.Regions.{Shaped, the_printer};
@@ -13,8 +13,16 @@ use session::session::Session;
 // The most rows that a session answers for at a time.
 const ROWS: u64 = 64;
 
+// Rows of a page, from one up to before another one; pages and rows are counted from 0.
+#[derive(Clone, Copy, Debug, PartialEq, Eq)]
+pub struct Rows {
+    pub page: u64,
+    pub from: u64,
+    pub to: u64,
+}
+
 // Why rows are missing: there is no room for them, or a question was refused.
-#[derive(Clone, Copy)]
+#[derive(Clone, Copy, Debug, PartialEq, Eq)]
 pub enum Missing {
     NoRoom,
     Unanswered(Reason),
@@ -28,75 +36,68 @@ fn copy_at(out: &mut [u8], at: usize, part: &[u8])
 }
 
 // Asks for a band and puts it into its place; says where the place behind it is.
-fn put_band<'m>(
-    s: Session<'m>,
+fn put_band(
+    s: &mut Session<'_>,
     page: u64,
     row: u64,
     rows: u64,
     at: usize,
     out: &mut [u8],
-) -> (Session<'m>, Result<usize, Missing>)
+) -> Result<usize, Missing>
     requires { at ≤ length out.old }
-    ensures within { IfOk result.1 (λ end. end ≤ length out.new) }
-    ensures serves { (j : Job) → Shaped (regions_of s.entry) → Serves the_printer j (memory_of s.entry) → Shaped (regions_of result.0) × Serves the_printer j (memory_of result.0) }
-    ensures right { (j : Job) → Shaped (regions_of s.entry) → Serves the_printer j (memory_of s.entry) → rows ≤ 64 → at + rows * j.wide ≤ length out.old → Placed result.1 j page row rows at out.old out.new }
+    ensures within { IfOk result (λ end. end ≤ length out.new) }
+    ensures serves { (j : Job) → Shaped (regions_of s.old) → Serves the_printer j (memory_of s.old) → Shaped (regions_of s.new) × Serves the_printer j (memory_of s.new) }
+    ensures right { (j : Job) → Shaped (regions_of s.old) → Serves the_printer j (memory_of s.old) → rows ≤ 64 → at + rows * j.wide ≤ length out.old → Placed result j page row rows at out.old out.new }
 {
-    let (s, reply) = s.ask(Question::Band { page, row, rows });
-    match reply {
+    match s.ask(Question::Band { page, row, rows }) {
         Reply::Dots(n) => {
             let band = s.rows(n);
             let size = band.len();
             if size <= out.len() - at {
                 copy_at(out, at, band);
-                (s, Ok(at + size))
+                Ok(at + size)
             } else {
-                (s, Err(Missing::NoRoom))
+                Err(Missing::NoRoom)
             }
         }
-        Reply::Unanswered(reason) => (s, Err(Missing::Unanswered(reason))),
-        Reply::Ended { .. } => (s, Err(Missing::NoRoom)),
+        Reply::Unanswered(reason) => Err(Missing::Unanswered(reason)),
+        Reply::Ended { .. } => Err(Missing::NoRoom),
     }
 }
 
-// Puts the rows of a page from one up to before another one after the other into `out`, asked for in bands of so many
-// rows, cut to 1 to 64. At least one question is asked, so that a page that was not shown is refused also for no rows.
-pub fn rows_between<'m>(
-    s: Session<'m>,
-    page: u64,
-    from: u64,
-    to: u64,
+// Puts rows of a page one after the other into `out`, asked for in bands of so many rows, cut to 1 to 64. At least one
+// question is asked, so that a page that was not shown is refused also for no rows.
+pub fn rows_between(
+    s: &mut Session<'_>,
+    rows: Rows,
     band: u64,
     width: usize,
     out: &mut [u8],
-) -> (Session<'m>, Result<(), Missing>)
-    ensures right { (j : Job) → Shaped (regions_of s.entry) → Serves the_printer j (memory_of s.entry) → page < length (shown j) → from ≤ to → to ≤ j.tall → width ≡ j.wide → (to - from) * width ≤ length out.old →
-        (result.1 ≡ Ok tt) × (out.new ≡ rows (slice_index_or (shown j) page []) j.wide from (to - from) ++ drop ((to - from) * j.wide) out.old) × Shaped (regions_of result.0) × Serves the_printer j (memory_of result.0) }
-    ensures answer { (j : Job) → Shaped (regions_of s.entry) → Serves the_printer j (memory_of s.entry) → from ≤ to → width ≡ j.wide → (to - from) * width ≤ length out.old → result.1 ≡ outcome j page to }
-    ensures serves { (j : Job) → Shaped (regions_of s.entry) → Serves the_printer j (memory_of s.entry) → Shaped (regions_of result.0) × Serves the_printer j (memory_of result.0) }
-    ensures backward { to < from → (result.1 ≡ Err (Missing.Unanswered NoSuchRows)) × (out.new ≡ out.old) }
-    ensures room { from ≤ to → length out.old < (to - from) * width → (result.1 ≡ Err Missing.NoRoom) × (out.new ≡ out.old) }
+) -> Result<(), Missing>
+    ensures right { (j : Job) → Shaped (regions_of s.old) → Serves the_printer j (memory_of s.old) → rows.page < length (shown j) → rows.from ≤ rows.to → rows.to ≤ j.tall → width ≡ j.wide → (rows.to - rows.from) * width ≤ length out.old →
+        (result ≡ Ok tt) × (out.new ≡ painted (slice_index_or (shown j) rows.page []) j.wide rows.from (rows.to - rows.from) ++ drop ((rows.to - rows.from) * j.wide) out.old) × Shaped (regions_of s.new) × Serves the_printer j (memory_of s.new) }
+    ensures answer { (j : Job) → Shaped (regions_of s.old) → Serves the_printer j (memory_of s.old) → rows.from ≤ rows.to → width ≡ j.wide → (rows.to - rows.from) * width ≤ length out.old → result ≡ outcome j rows.page rows.to }
+    ensures serves { (j : Job) → Shaped (regions_of s.old) → Serves the_printer j (memory_of s.old) → Shaped (regions_of s.new) × Serves the_printer j (memory_of s.new) }
+    ensures backward { rows.to < rows.from → (result ≡ Err (Missing.Unanswered NoSuchRows)) × (out.new ≡ out.old) }
+    ensures room { rows.from ≤ rows.to → length out.old < (rows.to - rows.from) * width → (result ≡ Err Missing.NoRoom) × (out.new ≡ out.old) }
 {
+    let Rows { page, from, to } = rows;
     if to < from {
-        return (s, Err(Missing::Unanswered(Reason::NoSuchRows)));
+        return Err(Missing::Unanswered(Reason::NoSuchRows));
     }
     if (to - from) as u128 * width as u128 > out.len() as u128 {
-        return (s, Err(Missing::NoRoom));
+        return Err(Missing::NoRoom);
     }
     let height = band.clamp(1, ROWS);
-    let mut s = s;
     let mut y = from;
     let mut at = 0;
+    // No `for` over the bands: there is a first one, of no rows, also where there are no rows.
     loop {
         let n = height.min(to - y);
-        let (next, put) = put_band(s, page, y, n, at, out);
-        s = next;
-        match put {
-            Ok(end) => at = end,
-            Err(missing) => return (s, Err(missing)),
-        }
+        at = put_band(s, page, y, n, at, out)?;
         y += n;
         if y == to {
-            return (s, Ok(()));
+            return Ok(());
         }
     }
 }

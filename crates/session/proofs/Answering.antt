@@ -8,7 +8,7 @@ use Rattle.raster.specs.Coverage.{rows}
 use Rattle.raster.proofs.BandLaws.{length-rows}
 use Rattle.machine.specs.Machine.{run, begin}
 use Rattle.session.specs.Jobs.{Asked, band, Answer, dots, refused}
-use Rattle.session.specs.Regions.{regs, path_room, clip_room, steps_in, width_in, height_in, run_of, pages_at, ending_at, answer_in, says_in, put_answer, next_in}
+use Rattle.session.specs.Regions.{regs, Roomy, path_room, clip_room, steps_in, width_in, height_in, run_of, pages_at, ending_at, answer_in, says_in, put_answer, next_in}
 use Rattle.session.proofs.Cutting.{same_regs}
 
 -- a run of the stored tokens under the header's steps
@@ -51,26 +51,34 @@ rows_answer room e t p w y n w2 y2 n2 ps qs bs cs same i j k h f painted =
     (ap (λ z. dots (take z cs)) m ∙ ap (λ z. dots (take (n * w) z)) b ∙ ap dots (take_at (rows page w y n) (drop (n * w) bs) (n * w) (length-rows page w y n)) ∙ sym a, b ∙ dots_put _ page w y n bs a)
 
 -- whether there is room for a path and for clips
-abbrev pub room : ℕ → ℕ → Bool
+abbrev room : ℕ → ℕ → Bool
 room path clips = leb path_room path && leb clip_room clips
 
-pub roomy : (path clips : ℕ) → 3072 ≤ path → 3072 ≤ clips → room path clips ≡ true
+has_room : (path clips : ℕ) → 3072 ≤ path → 3072 ≤ clips → room path clips ≡ true
 unfolding path_room clip_room
-roomy path clips h k = and_from _ _ (le-leb 3072 path h) (le-leb 3072 clips k)
+has_room path clips h k = and_from _ _ (le-leb 3072 path h) (le-leb 3072 clips k)
 
-pub cramped : (path clips : ℕ) → (path < 3072) ⊎ (clips < 3072) → room path clips ≡ false
+cramped : (path clips : ℕ) → (path < 3072) ⊎ (clips < 3072) → room path clips ≡ false
 unfolding path_room clip_room
 cramped path clips (inl h) = and_left _ _ (lt-leb 3072 path h)
 cramped path clips (inr h) = and_right _ _ (lt-leb 3072 clips h)
 
--- what is answered and left where there is room, and where there is none
-pub said : (text header path clips kept bytes : List ℕ) (q : Asked) (a : Answer) → room (length path) (length clips) ≡ true →
-    a ≡ answer_in (length bytes) (pages_at text header) (ending_at text header) (width_in header) (height_in header) q → a ≡ says_in (regs text header path clips kept bytes) q
-said text header path clips kept bytes q a e f = f ∙ sym (ap (λ z. cond z (answer_in (length bytes) (pages_at text header) (ending_at text header) (width_in header) (height_in header) q) (refused 5)) e)
+-- what is answered and left where there is room
+pub answered : (text header path clips kept bytes p c b : List ℕ) (q : Asked) (a : Answer) → Roomy (regs text header path clips kept bytes) →
+    a ≡ answer_in (length bytes) (pages_at text header) (ending_at text header) (width_in header) (height_in header) q →
+    b ≡ put_answer (answer_in (length bytes) (pages_at text header) (ending_at text header) (width_in header) (height_in header) q) bytes →
+    p ≡ replicate (length path) 0 → c ≡ replicate (length clips) 0 →
+    (a ≡ says_in (regs text header path clips kept bytes) q) × (regs text header p c kept b ≡ next_in (regs text header path clips kept bytes) q)
+answered text header path clips kept bytes p c b q a roomy e h f g =
+    let told = answer_in (length bytes) (pages_at text header) (ending_at text header) (width_in header) (height_in header) q in
+    let says : told ≡ says_in (regs text header path clips kept bytes) q = sym (ap (λ z. cond z told (refused 5)) (has_room (length path) (length clips) roomy.0 roomy.1)) in
+    (e ∙ says, same_regs _ _ _ _ _ _ _ _ _ _ _ _ refl refl f g refl (h ∙ ap (λ z. put_answer z bytes) says))
 
-pub unsaid : (text header path clips kept bytes : List ℕ) (q : Asked) → room (length path) (length clips) ≡ false → refused 5 ≡ says_in (regs text header path clips kept bytes) q
-unsaid text header path clips kept bytes q e = sym (ap (λ z. cond z (answer_in (length bytes) (pages_at text header) (ending_at text header) (width_in header) (height_in header) q) (refused 5)) e)
-
-pub left : (text header path clips kept bytes p c b : List ℕ) (q : Asked) (a : Answer) → a ≡ says_in (regs text header path clips kept bytes) q →
-    p ≡ replicate (length path) 0 → c ≡ replicate (length clips) 0 → b ≡ put_answer a bytes → regs text header p c kept b ≡ next_in (regs text header path clips kept bytes) q
-left text header path clips kept bytes p c b q a e f g h = same_regs _ _ _ _ _ _ _ _ _ _ _ _ refl refl f g refl (h ∙ ap (λ z. put_answer z bytes) e)
+-- and where there is none
+pub unanswered : (text header path clips kept bytes : List ℕ) (q : Asked) → (length path < 3072) ⊎ (length clips < 3072) →
+    (refused 5 ≡ says_in (regs text header path clips kept bytes) q)
+    × (regs text header (replicate (length path) 0) (replicate (length clips) 0) kept (replicate (length bytes) 0) ≡ next_in (regs text header path clips kept bytes) q)
+unanswered text header path clips kept bytes q tight =
+    let told = answer_in (length bytes) (pages_at text header) (ending_at text header) (width_in header) (height_in header) q in
+    let says : refused 5 ≡ says_in (regs text header path clips kept bytes) q = sym (ap (λ z. cond z told (refused 5)) (cramped (length path) (length clips) tight)) in
+    (says, same_regs _ _ _ _ _ _ _ _ _ _ _ _ refl refl refl refl refl (zeros_put _ 5 bytes (sym says)))

@@ -1,7 +1,7 @@
 -- Lists of small numbers.
 use Rattle.std.proofs.Common.{◌≡◌, ℕ, zero, suc, ◌*◌, ◌<◌, ◌≤◌, Bool, true, ltb, List, [], ◌∷◌, ◌++◌, length, get_or, drop, replicate, refl, arith, length-append}
 use Rattle.std.proofs.lemmas.Bool.{lt-ltb, and_parts, and_from}
-use Rattle.tokens.specs.Token.{Token, number, does, name, quoted, body, Tokens, none, more, Operator, number_of, adds, takes, multiplies, divides, is_less, copies, drops, swaps, defines, repeats, when, moves, lines, fills, clips_by, greys, shifts, scales, keeps, back, shows, size, size_of, InRange, AllInRange}
+use Rattle.tokens.specs.Token.{Token, number, does, name, quoted, body, Tokens, none, more, number_of, size, size_of, InRange, AllInRange}
 use Rattle.tokens.specs.Stored.{stored, all_stored}
 use Rattle.run.proofs.Numbers.{operator_small}
 use Rattle.session.specs.Promise.{all_below}

@@ -1,6 +1,6 @@
 -- The words are the regions one after another, and a cut gives the regions back.
-use Rattle.std.proofs.Common.{◌≡◌, ℕ, ◌+◌, List, ◌++◌, take, drop, sym, refl, ap, ◌∙◌}
-use Rattle.std.proofs.lemmas.List.{take_at, drop_at, drop-drop}
+use Rattle.std.proofs.Common.{◌≡◌, ℕ, ◌+◌, List, ◌++◌, take, drop, length, sym, refl, ap, ◌∙◌, subst}
+use Rattle.std.proofs.lemmas.List.{take_at, drop_at, drop-drop, length-replicate}
 use Rattle.session.specs.Jobs.{Asked, Answer}
 use Rattle.session.specs.Regions.{Regions, regs, joined, cut, path_room, clip_room, Shaped, next_in, says_in, the_printer}
 
@@ -16,8 +16,9 @@ cut_joined g h =
     let d : drop (4 + path_room + clip_room) w ≡ g.kept = sym (drop-drop clip_room (4 + path_room) w) ∙ ap (drop clip_room) b ∙ drop_at g.clips _ clip_room h.2 in
     same_regs _ _ _ _ _ _ _ _ _ _ _ _ refl (take_at g.header _ 4 h.0) (ap (take path_room) a ∙ take_at g.path _ path_room h.1) (ap (take clip_room) b ∙ take_at g.clips _ clip_room h.2) d refl
 
--- what the contract of asking says of the regions, said of the memory
-pub promised : (g g2 : Regions) (q : Asked) (a : Answer) → g2 ≡ next_in g q → a ≡ says_in g q → Shaped g → (a ≡ the_printer.says (joined g) q) × (joined g2 ≡ the_printer.next (joined g) q)
+-- what the contract of asking says of the regions, said of the memory; and they stay as opening cuts them
+pub promised : (g g2 : Regions) (q : Asked) (a : Answer) → g2 ≡ next_in g q → a ≡ says_in g q → Shaped g → Shaped g2 × (a ≡ the_printer.says (joined g) q) × (joined g2 ≡ the_printer.next (joined g) q)
 promised g g2 q a e f h =
     let c = sym (cut_joined g h) in
-    (f ∙ ap (λ z. says_in z q) c, ap joined e ∙ ap (λ z. joined (next_in z q)) c)
+    let shaped : Shaped (next_in g q) = (h.0, length-replicate (length g.path) 0 ∙ h.1, length-replicate (length g.clips) 0 ∙ h.2) in
+    (subst Shaped (sym e) shaped, f ∙ ap (λ z. says_in z q) c, ap joined e ∙ ap (λ z. joined (next_in z q)) c)

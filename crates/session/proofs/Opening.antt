@@ -1,12 +1,13 @@
 -- What opening comes to, way by way.
-use Rattle.std.proofs.Common.{◌≡◌, ℕ, ◌+◌, ◌*◌, ◌<◌, ◌≤◌, Bool, true, false, cond, ◌&&◌, leb, List, length, take, drop, Some, None, Ok, Err, sym, refl, ap, ◌∙◌, arith}
+use Rattle.std.proofs.Common.{◌≡◌, ℕ, ◌+◌, ◌*◌, ◌<◌, ◌≤◌, Bool, true, false, cond, ◌&&◌, leb, List, length, take, drop, Ok, Err, Result, sym, refl, ap, ◌∙◌, subst, inl, inr, arith}
 use Rattle.std.proofs.lemmas.List.{take_at}
-use Rattle.std.proofs.lemmas.Bool.{le-leb, lt-leb, leb-true, and_parts}
+use Rattle.std.proofs.lemmas.Bool.{le-leb, lt-leb, leb-true, and_parts, cases_lt}
 use Rattle.tokens.specs.Token.{Tokens}
 use Rattle.tokens.specs.Stored.{all_stored}
 use Rattle.lexer.specs.Reading.{Read, tokens}
 use Rattle.lexer.specs.Reading as reading
 use Rattle.text.specs.declared.refusal.Refusal.{Refusal}
+use Rattle.text.specs.declared.refusal.Refusal.TheVariants.{TooLittleMemory}
 use Rattle.text.specs.Refusing.{refusal_number, refusal_place, Checked}
 use Rattle.text.specs.Storing.{StoredAs}
 use Rattle.session.specs.Jobs.{good_size}
@@ -27,14 +28,14 @@ pub rooms : 4 + path_room + clip_room ≡ 6148
 unfolding path_room clip_room
 rooms = refl
 
--- what a value that is handed on only if a test is passed says of the test
-pub left_out : {A : Type 0} (b : Bool) (x : A) → None ≡ cond b (Some x) None → b ≡ false
-left_out true x e = let z : ◌≡◌ {A = ℕ} 0 1 = cc in absurd (omega arith)
-left_out false x e = refl
+-- what a test that refuses tells by what it answers
+pub turned : {E : Type 0} (b : Bool) (e f : E) → ◌≡◌ {A = Result Unit E} (Err f) (cond b (Ok tt) (Err e)) → (b ≡ false) × (f ≡ e)
+turned true e f h = let z : ◌≡◌ {A = ℕ} 0 1 = cc in absurd (omega arith)
+turned false e f h = (refl, cc)
 
-pub let_in : {A : Type 0} (b : Bool) (x y : A) → Some y ≡ cond b (Some x) None → (b ≡ true) × (y ≡ x)
-let_in true x y e = (refl, cc)
-let_in false x y e = let z : ◌≡◌ {A = ℕ} 0 1 = cc in absurd (omega arith)
+pub passed : {E : Type 0} (b : Bool) (e : E) (u : Unit) → ◌≡◌ {A = Result Unit E} (Ok u) (cond b (Ok tt) (Err e)) → b ≡ true
+passed true e u h = refl
+passed false e u h = let z : ◌≡◌ {A = ℕ} 0 1 = cc in absurd (omega arith)
 
 -- a text that is refused
 pub refused_text : (o : Order) (d : Read) (why : Refusal) → Checked (Err why) d → opened_by o d ≡ turned_away (refusal_number why) (refusal_place why)
@@ -53,7 +54,7 @@ unfolding opened_by
 few_words o (reading.Read.refused k p) n h g l = absurd h
 few_words o (tokens ts) n h g l = let r = rooms in let t : leb (words_asked o ts) o.words_lent ≡ false = lt-leb _ _ (omega arith) in simp (g, t)
 
-pub few_bytes : (o : Order) (d : Read) (n : ℕ) → Checked (Ok n) d → good_size o.steps o.wide o.tall ≡ true → 2 * n + 6148 + o.kept ≤ o.words_lent → o.bytes_lent < 64 * o.wide → opened_by o d ≡ turned_away 3 1
+few_bytes : (o : Order) (d : Read) (n : ℕ) → Checked (Ok n) d → good_size o.steps o.wide o.tall ≡ true → 2 * n + 6148 + o.kept ≤ o.words_lent → o.bytes_lent < 64 * o.wide → opened_by o d ≡ turned_away 3 1
 unfolding opened_by
 few_bytes o (reading.Read.refused k p) n h g l m = absurd h
 few_bytes o (tokens ts) n h g l m =
@@ -69,7 +70,7 @@ narrow o g =
     let width = (and_parts (leb 1 o.wide && leb o.wide 8192) _ sides).0 in
     leb-true o.wide 8192 (and_parts (leb 1 o.wide) _ width).1
 
-pub is_admitted : (o : Order) (d : Read) (n : ℕ) → Checked (Ok n) d → good_size o.steps o.wide o.tall ≡ true → 2 * n + 6148 + o.kept ≤ o.words_lent → 64 * o.wide ≤ o.bytes_lent → Admitted (Ok tt) o d
+is_admitted : (o : Order) (d : Read) (n : ℕ) → Checked (Ok n) d → good_size o.steps o.wide o.tall ≡ true → 2 * n + 6148 + o.kept ≤ o.words_lent → 64 * o.wide ≤ o.bytes_lent → Admitted (Ok tt) o d
 unfolding opened_by
 is_admitted o (reading.Read.refused k p) n h g l m = absurd h
 is_admitted o (tokens ts) n h g l m =
@@ -77,6 +78,16 @@ is_admitted o (tokens ts) n h g l m =
     let t : leb (words_asked o ts) o.words_lent ≡ true = le-leb _ _ (omega arith) in
     let u : leb (64 * o.wide) o.bytes_lent ≡ true = le-leb _ _ m in
     (simp (g, t, u), omega arith, m, narrow o g)
+
+-- the last test, of the bytes, decides
+pub bytes_tested : (o : Order) (d : Read) (n : ℕ) → Checked (Ok n) d → good_size o.steps o.wide o.tall ≡ true → 2 * n + 6148 + o.kept ≤ o.words_lent →
+    (r : Result Unit Refusal) → r ≡ cond (leb (64 * o.wide) o.bytes_lent) (Ok tt) (Err (TooLittleMemory 1)) → Admitted r o d
+bytes_tested o d n h g l r e =
+    let told = λ (b : Bool) (t : leb (64 * o.wide) o.bytes_lent ≡ b). sym (e ∙ ap (λ z. cond z (Ok tt) (Err (TooLittleMemory 1))) t) in
+    elim (cases_lt o.bytes_lent (64 * o.wide)) [
+      | inl few ↦ subst (λ z. Admitted z o d) (told false (lt-leb _ _ few)) (few_bytes o d n h g l few)
+      | inr m ↦ subst (λ z. Admitted z o d) (told true (le-leb _ _ m)) (is_admitted o d n h g l m)
+    ]
 
 -- storing a text that was admitted: the tokens are there
 pub stored_well : (o : Order) (d : Read) (n : ℕ) (ws vs : List ℕ) → Admitted (Ok tt) o d → length ws ≡ o.words_lent → StoredAs (Ok n) d ws vs →

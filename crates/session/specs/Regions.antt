@@ -1,5 +1,5 @@
 -- The lent memory of a session as its regions: what stands in them after opening, what is answered from them, and what asking leaves. Cited by the contracts of `open` and `ask`. Assumes nothing: these are definitions.
-use Rattle.std.specs.Prelude.{◌≡◌, ℕ, ◌+◌, ◌*◌, min, cond, ◌&&◌, List, [], ◌∷◌, ◌++◌, length, take, drop, replicate, nat_le, nat_lt, slice_index, slice_index_or}
+use Rattle.std.specs.Prelude.{◌≡◌, ℕ, ◌+◌, ◌*◌, ◌≤◌, min, cond, ◌&&◌, List, [], ◌∷◌, ◌++◌, length, take, drop, replicate, nat_le, nat_lt, slice_index, slice_index_or}
 use Rattle.tokens.specs.Token.{Tokens, size}
 use Rattle.tokens.specs.Stored.{decode, all_stored}
 use Rattle.tokens.specs.Stage.{whole}
@@ -49,6 +49,10 @@ cut m =
 -- the regions as opening cuts them
 abbrev pub Shaped : Regions → Type 0
 Shaped g = (length g.header ≡ 4) × (length g.path ≡ path_room) × (length g.clips ≡ clip_room)
+
+-- there is room for a path and for clips
+abbrev pub Roomy : Regions → Type 0
+Roomy g = (3072 ≤ length g.path) × (3072 ≤ length g.clips)
 
 -- steps, width and height as the header has them, cut to their ranges: any words are some header
 abbrev pub steps_in : List ℕ → ℕ

@@ -1,5 +1,5 @@
 -- The code's sessions, orders, questions and replies as those of the promises. Cited by the contracts of `open` and `ask`. Assumes nothing: these are definitions.
-use Rattle.std.specs.Prelude.{◌≡◌, ℕ, ◌+◌, ◌*◌, ◌≤◌, true, false, ◌&&◌, List, take, Some, None, Ok, Err, Option, Result, nat_le}
+use Rattle.std.specs.Prelude.{◌≡◌, ℕ, ◌+◌, ◌*◌, ◌≤◌, true, false, ◌&&◌, List, ◌++◌, take, Some, None, Ok, Err, Option, Result, codes, decimal, nat_le}
 use Rattle.tokens.specs.Token.{Tokens, size}
 use Rattle.tokens.specs.Stage.{whole}
 use Rattle.lexer.specs.Reading.{Read, tokens, read}
@@ -38,6 +38,10 @@ reason_number NoSuchRows = 5
 abbrev pub reason_place : Reason → ℕ
 reason_place NoSuchPage = 0
 reason_place NoSuchRows = 1
+
+-- how it is printed
+abbrev pub reason_bytes : Reason → List ℕ
+reason_bytes r = codes "refused " ++ (decimal (reason_number r) ++ (codes " at " ++ decimal (reason_place r)))
 
 -- the dots of an answer are the front of the bytes
 abbrev pub answer_of : Reply → List ℕ → Answer

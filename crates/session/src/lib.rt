@@ -18,7 +18,7 @@
 //     numbers | tokens | path 3,072 | clips 3,072 | never touched |
 //     bytes   | the listing, as far as it fits | never touched |
 //
-// order: what is ordered, and a refusal. question: questions and replies. layout: how much is asked for, and zeros.
+// order: what is ordered, and a refusal. question: questions and replies. layout: how much is asked for, and whether it is there.
 // reply: an answer from the regions. session: `open`, which cuts lent memory once, and `ask`. paints: `list_paints`.
 // laws: the main promise.
 #![tactic(auto)]

@@ -2,7 +2,7 @@ use text::refusal::Refusal;
 
 // What a job may do and what its pages are like: steps up to 10^9, width 1 to 8,192, height 1 to 65,535; and how many
 // numbers may be kept.
-#[derive(Clone, Copy)]
+#[derive(Clone, Copy, Debug, PartialEq, Eq)]
 pub struct Order {
     pub steps: u64,
     pub width: u64,

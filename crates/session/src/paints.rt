@@ -1,4 +1,4 @@
-ghost use Rattle.std.specs.Prelude.{◌≡◌, ◌+◌, ◌≤◌, min, ◌++◌, length, take, drop, replicate, if◌then◌else◌, Some, None, nat_le};
+ghost use Rattle.std.specs.Prelude.{◌≡◌, ◌+◌, ◌≤◌, min, ◌++◌, length, take, drop, replicate};
 ghost use Rattle.tokens.specs.Stage.{whole};
 ghost use Rattle.tokens.specs.Stored.{decode};
 ghost use Rattle.lexer.specs.Reading.{read};
@@ -7,22 +7,11 @@ ghost use Rattle.machine.specs.Laws.{state_of};
 ghost use Rattle.listing.specs.Lines.{listing_of};
 ghost use Rattle.session.specs.Listed.{listed_by, ListedAs, Judged};
 
-use super::layout::{CLIPS, PATH, words_left, zero_words};
+use super::layout::{CLIPS, PATH, enough, few_enough, words_asked};
 use listing::things::list_things;
 use text::refusal::Refusal;
 use text::{count_tokens, store_tokens};
 use tokens::Whole;
-
-// The steps, if a job may take so many.
-fn few_enough(steps: u64) -> Option<u32>
-    ensures { result ≡ (if nat_le steps 1000000000 then Some steps else None) }
-{
-    if steps <= 1_000_000_000 {
-        Some(steps as u32)
-    } else {
-        None
-    }
-}
 
 // Whether a text is listed in so many lent words, and then the steps; or by which refusal, the first that applies, it
 // is not.
@@ -30,12 +19,8 @@ fn judge(source: &[u8], steps: u64, words: usize) -> Result<u32, Refusal>
     ensures { Judged result (read whole source.now) steps words }
 {
     let tokens = count_tokens::<Whole>(source)?;
-    let Some(steps) = few_enough(steps) else {
-        return Err(Refusal::TooLarge { place: 0 });
-    };
-    let Some(_) = words_left(words, tokens, 0) else {
-        return Err(Refusal::TooLittleMemory { place: 0 });
-    };
+    let steps = few_enough(steps)?;
+    enough(words, words_asked(tokens, 0), 0)?;
     Ok(steps)
 }
 
@@ -50,7 +35,7 @@ fn list_stored(words: &mut [u64], used: usize, bytes: &mut [u8], steps: u32) -> 
     let (text, work) = words.split_at_mut(used);
     let (path, clips) = work.split_at_mut(PATH);
     let length = list_things(text, path, clips, bytes, steps);
-    zero_words(words);
+    words.fill(0);
     length
 }
 

@@ -1,10 +1,11 @@
-ghost use Rattle.std.specs.Prelude.{◌≡◌, ℕ, ◌≤◌, min, List, length, replicate, slice_index};
-ghost use Rattle.session.specs.Jobs.{band};
-ghost use Rattle.session.specs.Regions.{regs, pages_at, ending_at, answer_in, put_answer, steps_in, width_in, height_in, says_in, next_in};
-ghost use Rattle.session.specs.Views.{asked_of, answer_of, Within};
+ghost use Rattle.std.specs.Prelude.{◌≡◌, min, slice_index};
+ghost use Rattle.session.specs.Jobs.{how_it_ends, band};
+ghost use Rattle.session.specs.Regions.{Roomy, steps_in, says_in, next_in};
+ghost use Rattle.session.specs.Views.{regions_of, asked_of, answer_of, Within};
 
-use super::layout::{CLIPS, PATH, zero_all, zero_bytes};
+use super::layout::{CLIPS, PATH};
 use super::question::{Question, Reason, Reply};
+use super::session::Session;
 use band::page::run_band;
 use raster::band::Band;
 use run::count::count_pages;
@@ -27,20 +28,6 @@ fn steps(header: &[u64]) -> u32
     setting(header, 0, 1_000_000_000) as u32
 }
 
-// How the job ends, by a run of it.
-fn end_reply(text: &[u64], header: &[u64], path: &mut [u64], clips: &mut [u64]) -> Reply
-    requires { (3072 ≤ length path.old) × (3072 ≤ length clips.old) }
-    ensures value { result ≡ Reply.Ended (length (pages_at text.now header.now)) (ending_at text.now header.now) }
-    ensures path { path.new ≡ replicate (length path.old) 0 }
-    ensures clips { clips.new ≡ replicate (length clips.old) 0 }
-{
-    let outcome = count_pages::<Whole>(text, path, clips, steps(header));
-    Reply::Ended {
-        pages: outcome.pages,
-        ending: u8::from(outcome.ending),
-    }
-}
-
 // The band that is asked for, if the page has such rows and the bytes have room for them.
 fn band_within(header: &[u64], room: usize, row: u64, rows: u64) -> Option<Band>
     ensures { Within result header.now room row rows }
@@ -61,65 +48,64 @@ fn band_within(header: &[u64], room: usize, row: u64, rows: u64) -> Option<Band>
     })
 }
 
-// Rows of a page, by a run of the job up to the end of that page.
-fn band_reply(
-    text: &[u64],
-    header: &[u64],
-    path: &mut [u64],
-    clips: &mut [u64],
-    bytes: &mut [u8],
-    page: u64,
-    row: u64,
-    rows: u64,
-) -> Reply
-    requires { (3072 ≤ length path.old) × (3072 ≤ length clips.old) }
-    ensures answer { answer_of result bytes.new ≡ answer_in (length bytes.old) (pages_at text.now header.now) (ending_at text.now header.now) (width_in header.now) (height_in header.now) (band page row rows) }
-    ensures bytes { bytes.new ≡ put_answer (answer_in (length bytes.old) (pages_at text.now header.now) (ending_at text.now header.now) (width_in header.now) (height_in header.now) (band page row rows)) bytes.old }
-    ensures path { path.new ≡ replicate (length path.old) 0 }
-    ensures clips { clips.new ≡ replicate (length clips.old) 0 }
-{
-    let steps = steps(header);
-    let Some(band) = band_within(header, bytes.len(), row, rows) else {
-        let none = Band {
-            width: 0,
-            first: 0,
-            count: 0,
-        };
-        let shown = run_band(text, path, clips, bytes, steps, page, none);
-        zero_bytes(bytes);
-        return Reply::Unanswered(if shown {
-            Reason::NoSuchRows
-        } else {
-            Reason::NoSuchPage
-        });
-    };
-    if run_band(text, path, clips, bytes, steps, page, band) {
-        Reply::Dots(band.count * band.width)
-    } else {
-        Reply::Unanswered(Reason::NoSuchPage)
+impl Session<'_> {
+    // How the job ends, by a run of it.
+    fn end_reply(&mut self) -> Reply
+        requires { Roomy (regions_of self.old) }
+        ensures answer { answer_of result self.new.bytes.now ≡ says_in (regions_of self.old) how_it_ends }
+        ensures memory { regions_of self.new ≡ next_in (regions_of self.old) how_it_ends }
+    {
+        let outcome = count_pages::<Whole>(self.text, self.path, self.clips, steps(self.header));
+        Reply::Ended {
+            pages: outcome.pages,
+            ending: u8::from(outcome.ending),
+        }
     }
-}
 
-// The answer to a question from all regions, which are then as the written ones are after it.
-pub(super) fn reply_in(
-    text: &[u64],
-    header: &[u64],
-    path: &mut [u64],
-    clips: &mut [u64],
-    bytes: &mut [u8],
-    question: Question,
-) -> Reply
-    ensures answer { (kept : List ℕ) → answer_of result bytes.new ≡ says_in (regs text.now header.now path.old clips.old kept bytes.old) (asked_of question) }
-    ensures memory { (kept : List ℕ) → regs text.now header.now path.new clips.new kept bytes.new ≡ next_in (regs text.now header.now path.old clips.old kept bytes.old) (asked_of question) }
-{
-    if path.len() < PATH || clips.len() < CLIPS {
-        zero_all(path, clips, bytes);
-        return Reply::Unanswered(Reason::NoSuchRows);
+    // Rows of a page, by a run of the job up to the end of that page.
+    fn band_reply(&mut self, page: u64, row: u64, rows: u64) -> Reply
+        requires { Roomy (regions_of self.old) }
+        ensures answer { answer_of result self.new.bytes.now ≡ says_in (regions_of self.old) (band page row rows) }
+        ensures memory { regions_of self.new ≡ next_in (regions_of self.old) (band page row rows) }
+    {
+        let steps = steps(self.header);
+        let Some(band) = band_within(self.header, self.bytes.len(), row, rows) else {
+            let none = Band {
+                width: 0,
+                first: 0,
+                count: 0,
+            };
+            let shown = run_band(
+                self.text, self.path, self.clips, self.bytes, steps, page, none,
+            );
+            self.bytes.fill(0);
+            return Reply::Unanswered(if shown {
+                Reason::NoSuchRows
+            } else {
+                Reason::NoSuchPage
+            });
+        };
+        if run_band(
+            self.text, self.path, self.clips, self.bytes, steps, page, band,
+        ) {
+            Reply::Dots(band.count * band.width)
+        } else {
+            Reply::Unanswered(Reason::NoSuchPage)
+        }
     }
-    match question {
-        Question::End => end_reply(text, header, path, clips),
-        Question::Band { page, row, rows } => {
-            band_reply(text, header, path, clips, bytes, page, row, rows)
+
+    // The answer to a question; the regions are then as the written ones are after it.
+    pub(super) fn reply(&mut self, question: Question) -> Reply
+        ensures answer { answer_of result self.new.bytes.now ≡ says_in (regions_of self.old) (asked_of question) }
+        ensures memory { regions_of self.new ≡ next_in (regions_of self.old) (asked_of question) }
+    {
+        if self.path.len() < PATH || self.clips.len() < CLIPS {
+            self.zero_all();
+            return Reply::Unanswered(Reason::NoSuchRows);
+        }
+        match question {
+            Question::End => self.end_reply(),
+            Question::Band { page, row, rows } => self.band_reply(page, row, rows),
         }
     }
 }

@@ -6,10 +6,9 @@ ghost use Rattle.session.specs.Promise.{Serves};
 ghost use Rattle.session.specs.Regions.{regs, Shaped, says_in, next_in, the_printer};
 ghost use Rattle.session.specs.Views.{regions_of, memory_of, asked_of, answer_of, order_of, opened_of, Admitted, OpenedRight};
 
-use super::layout::{CLIPS, HEADER, PATH, ROWS, in_range, words_left, zero_all, zero_words};
+use super::layout::{CLIPS, HEADER, PATH, ROWS, enough, in_range, words_asked};
 use super::order::{Order, Refused};
 use super::question::{Question, Reply};
-use super::reply::reply_in;
 use text::refusal::Refusal;
 use text::{count_tokens, store_tokens};
 use tokens::Whole;
@@ -17,12 +16,12 @@ use tokens::Whole;
 // The lent memory of an opened job, cut into its regions.
 #[derive(Drop)]
 pub struct Session<'m> {
-    text: &'m [u64],
-    header: &'m mut [u64],
-    path: &'m mut [u64],
-    clips: &'m mut [u64],
+    pub(super) text: &'m [u64],
+    pub(super) header: &'m [u64],
+    pub(super) path: &'m mut [u64],
+    pub(super) clips: &'m mut [u64],
     kept: &'m mut [u64],
-    bytes: &'m mut [u8],
+    pub(super) bytes: &'m mut [u8],
 }
 
 fn put_header(header: &mut [u64], order: Order)
@@ -49,16 +48,17 @@ fn lay<'m>(used: usize, order: Order, words: &'m mut [u64], bytes: &'m mut [u8])
     let (kept, _spare) = words.split_at_mut(order.kept as usize);
     let (bytes, _over) = bytes.split_at_mut(ROWS * order.width as usize);
     put_header(header, order);
-    zero_all(path, clips, bytes);
-    zero_words(kept);
-    Session {
+    kept.fill(0);
+    let mut session = Session {
         text,
         header,
         path,
         clips,
         kept,
         bytes,
-    }
+    };
+    session.zero_all();
+    session
 }
 
 // Whether a job is opened in so much lent memory, or by which refusal, the first that applies, it is not.
@@ -66,16 +66,9 @@ fn admit(source: &[u8], order: Order, words: usize, bytes: usize) -> Result<(), 
     ensures { Admitted result (order_of source.now order words bytes) (read whole source.now) }
 {
     let tokens = count_tokens::<Whole>(source)?;
-    let Some(order) = in_range(order) else {
-        return Err(Refusal::TooLarge { place: 0 });
-    };
-    let Some(_) = words_left(words, tokens, order.kept) else {
-        return Err(Refusal::TooLittleMemory { place: 0 });
-    };
-    let Some(_) = bytes.checked_sub(ROWS * order.width as usize) else {
-        return Err(Refusal::TooLittleMemory { place: 1 });
-    };
-    Ok(())
+    in_range(order)?;
+    enough(words, words_asked(tokens, order.kept), 0)?;
+    enough(bytes, ROWS as u128 * order.width as u128, 1)
 }
 
 // Opens a job over lent memory, or refuses it by the first number that applies and gives the memory back as it was.
@@ -110,32 +103,22 @@ impl<'m> Session<'m> {
         }
     }
 
-    // Answers a question. The session is handed back with its memory as it is then.
-    pub fn ask(self, question: Question) -> (Session<'m>, Reply)
-        ensures answer { answer_of result.1 result.0.bytes.now ≡ says_in (regions_of self.entry) (asked_of question) }
-        ensures memory { regions_of result.0 ≡ next_in (regions_of self.entry) (asked_of question) }
-        ensures printer { Shaped (regions_of self.entry) → Shaped (regions_of result.0) × (answer_of result.1 result.0.bytes.now ≡ the_printer.says (memory_of self.entry) (asked_of question)) × (memory_of result.0 ≡ the_printer.next (memory_of self.entry) (asked_of question)) }
-        ensures right { (j : Job) → Shaped (regions_of self.entry) → Serves the_printer j (memory_of self.entry) → (answer_of result.1 result.0.bytes.now ≡ answer j (asked_of question)) × Serves the_printer j (memory_of result.0) }
+    // Zeros in the regions that a run and its rows have: at first, and after a question that has no room.
+    pub(super) fn zero_all(&mut self)
+        ensures { regions_of self.new ≡ regs self.old.text.now self.old.header.now (replicate (length self.old.path.now) 0) (replicate (length self.old.clips.now) 0) self.old.kept.now (replicate (length self.old.bytes.now) 0) }
     {
-        let Session {
-            text,
-            header,
-            path,
-            clips,
-            kept,
-            bytes,
-        } = self;
-        let reply = reply_in(text, header, path, clips, bytes, question);
-        (
-            Session {
-                text,
-                header,
-                path,
-                clips,
-                kept,
-                bytes,
-            },
-            reply,
-        )
+        self.path.fill(0);
+        self.clips.fill(0);
+        self.bytes.fill(0);
+    }
+
+    // Answers a question.
+    pub fn ask(&mut self, question: Question) -> Reply
+        ensures answer { answer_of result self.new.bytes.now ≡ says_in (regions_of self.old) (asked_of question) }
+        ensures memory { regions_of self.new ≡ next_in (regions_of self.old) (asked_of question) }
+        ensures printer { Shaped (regions_of self.old) → Shaped (regions_of self.new) × (answer_of result self.new.bytes.now ≡ the_printer.says (memory_of self.old) (asked_of question)) × (memory_of self.new ≡ the_printer.next (memory_of self.old) (asked_of question)) }
+        ensures right { (j : Job) → Shaped (regions_of self.old) → Serves the_printer j (memory_of self.old) → (answer_of result self.new.bytes.now ≡ answer j (asked_of question)) × Serves the_printer j (memory_of self.new) }
+    {
+        self.reply(question)
     }
 }

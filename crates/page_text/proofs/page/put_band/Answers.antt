@@ -12,10 +12,10 @@ returns-then-size-out c =
     let out = c.args.out.now in
     record {
       within = omega (arith, c.copy_at.auto.out);
-      serves = λ j h s. ((c.ask-s.ensures.printer h).0, (c.ask-s.ensures.right j h s).1);
+      serves = λ j h s. ((c.ask.ensures.printer h).0, (c.ask.ensures.right j h s).1);
       right = λ j h s few fits.
-          let a = (c.ask-s.ensures.right j h s).0 in
-          let d = by_dots j c.args.page c.args.row c.args.rows _ few (sym (ap (λ z. answer_of z c.ask-s.result.0.bytes.now) c.in-Dots.is) ∙ a) in
+          let a = (c.ask.ensures.right j h s).0 in
+          let d = by_dots j c.args.page c.args.row c.args.rows _ few (sym (ap (λ z. answer_of z c.ask.new.self.bytes.now) c.in-Dots.is) ∙ a) in
           let b = c.rows-band.ensures ∙ d.2 in
           let n = length-rows (get_or (shown j) c.args.page []) j.wide c.args.row c.args.rows in (
             d.0,
@@ -30,10 +30,10 @@ pub returns-else-size-out : goal.returns-else-size-out
 returns-else-size-out c =
     record {
       within = tt;
-      serves = λ j h s. ((c.ask-s.ensures.printer h).0, (c.ask-s.ensures.right j h s).1);
+      serves = λ j h s. ((c.ask.ensures.printer h).0, (c.ask.ensures.right j h s).1);
       right = λ j h s few fits.
-          let a = (c.ask-s.ensures.right j h s).0 in
-          let d = by_dots j c.args.page c.args.row c.args.rows _ few (sym (ap (λ z. answer_of z c.ask-s.result.0.bytes.now) c.in-Dots.is) ∙ a) in
+          let a = (c.ask.ensures.right j h s).0 in
+          let d = by_dots j c.args.page c.args.row c.args.rows _ few (sym (ap (λ z. answer_of z c.ask.new.self.bytes.now) c.in-Dots.is) ∙ a) in
           let b = c.rows-band.ensures ∙ d.2 in
           let n = length-rows (get_or (shown j) c.args.page []) j.wide c.args.row c.args.rows in
           omega (arith, ap length b, n, c.if-size-out.false);
@@ -43,18 +43,18 @@ pub returns-in-Unanswered : goal.returns-in-Unanswered
 returns-in-Unanswered c =
     record {
       within = tt;
-      serves = λ j h s. ((c.ask-s.ensures.printer h).0, (c.ask-s.ensures.right j h s).1);
+      serves = λ j h s. ((c.ask.ensures.printer h).0, (c.ask.ensures.right j h s).1);
       right = λ j h s few fits.
-          let a = (c.ask-s.ensures.right j h s).0 in
-          by_refusal c.in-Unanswered.reason j c.args.page c.args.row c.args.rows c.args.at c.args.out.now few (sym (ap (λ z. answer_of z c.ask-s.result.0.bytes.now) c.in-Unanswered.is) ∙ a);
+          let a = (c.ask.ensures.right j h s).0 in
+          by_refusal c.in-Unanswered.reason j c.args.page c.args.row c.args.rows c.args.at c.args.out.now few (sym (ap (λ z. answer_of z c.ask.new.self.bytes.now) c.in-Unanswered.is) ∙ a);
     }
 
 pub returns-in-Ended : goal.returns-in-Ended
 returns-in-Ended c =
     record {
       within = tt;
-      serves = λ j h s. ((c.ask-s.ensures.printer h).0, (c.ask-s.ensures.right j h s).1);
+      serves = λ j h s. ((c.ask.ensures.printer h).0, (c.ask.ensures.right j h s).1);
       right = λ j h s few fits.
-          let a = (c.ask-s.ensures.right j h s).0 in
-          by_end j c.args.page c.args.row c.args.rows _ _ few (sym (ap (λ z. answer_of z c.ask-s.result.0.bytes.now) c.in-Ended.is) ∙ a);
+          let a = (c.ask.ensures.right j h s).0 in
+          by_end j c.args.page c.args.row c.args.rows _ _ few (sym (ap (λ z. answer_of z c.ask.new.self.bytes.now) c.in-Ended.is) ∙ a);
     }
