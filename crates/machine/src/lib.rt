@@ -8,7 +8,7 @@
 //     tokens   | shared; frames and values hold parts of them |
 //     values   | up to 256 of 24 bytes |                          operand stack
 //     frames   | up to  64 of 40 bytes |
-//     meanings | 256 of 24 bytes, by a name's number |            bindings
+//     meanings | 256 of 32 bytes, by a name's number |            bindings
 //     order    | up to 256 names, as they were first bound |
 //     kept     | up to  16 of 32 bytes |                          graphics states
 //     clips    | lent words, the first `graphics.clips` in force; those of a kept state are a front part |

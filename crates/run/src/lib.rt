@@ -14,7 +14,7 @@
 // of the clips are 0 after a run.
 //
 // drive: how a run goes, for any sink. job: a whole run of its own machine. count: the sink that
-// counts pages. Painting a band, keeping and listing are other sinks of crates above.
+// counts pages. Painting a band and listing are other sinks of crates above.
 #![tactic(auto)]
 
 pub mod count;
