@@ -7,14 +7,13 @@ mod memory;
 mod options;
 mod pages;
 
-use failure::Failure;
+use failure::{Failure, end, read_job};
 use memory::{bytes_for, numbers_for};
 use options::{Options, command_line};
 use pages::{print_pages, print_refusal};
 use session::session::open;
-use std::io::Read;
+use std::io;
 use std::process::ExitCode;
-use std::{fs, io};
 
 const USAGE: &str = "print_pages [options] [FILE]
 
@@ -34,15 +33,6 @@ is the one line 'refused K at P'.
                   last line on standard error (text)
   --help          this text";
 
-fn job(rt: &HostRuntime, file: &str) -> io::Result<Vec<u8>> {
-    if file == "-" {
-        let mut bytes = Vec::new(rt.alloc());
-        rt.stdin().read_to_end(&mut bytes)?;
-        return Ok(bytes);
-    }
-    fs::read(rt, file)
-}
-
 fn print_job(rt: &HostRuntime, source: &[u8], o: &Options) -> Result<(), Failure> {
     let mut words = numbers_for(rt.alloc(), source, o.order);
     let mut bytes = bytes_for(rt.alloc(), o.order);
@@ -61,27 +51,17 @@ fn run(rt: &HostRuntime) -> Result<(), Failure> {
         println!(rt; "{USAGE}")?;
         return Ok(());
     }
-    match job(rt, o.file.as_str()) {
-        Ok(source) => print_job(rt, source.as_slice(), &o),
-        Err(e) => {
-            let file = o.file.as_str();
-            Err(Failure::Said(format!(in rt.alloc();
-                "cannot read {file}: {e}: give the name of a job, or - for standard input"
-            )?))
-        }
-    }
+    let advice = ": give the name of a job, or - for standard input";
+    let source = read_job(rt, o.file.as_str(), advice)?;
+    print_job(rt, source.as_slice(), &o)
 }
 
 fn main(rt: HostRuntime) -> io::Result<ExitCode> {
-    match run(&rt) {
-        Ok(()) => Ok(ExitCode::SUCCESS),
+    let done = match run(&rt) {
         Err(Failure::NoMemory) => {
-            eprintln!(rt; "print_pages: there is too little memory: try a narrower page")?;
-            Ok(ExitCode::FAILURE)
+            Err(Failure::Told("there is too little memory: try a narrower page"))
         }
-        Err(e) => {
-            eprintln!(rt; "print_pages: {e}")?;
-            Ok(ExitCode::FAILURE)
-        }
-    }
+        done => done,
+    };
+    end(&rt, "print_pages", done)
 }

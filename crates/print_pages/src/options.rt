@@ -1,17 +1,21 @@
-use failure::Failure;
+ghost use Rattle.std.specs.Prelude.{◌≤◌};
+ghost use Rattle.std.specs.Vec.Iter.{into_iter_len};
+
+use failure::{Failure, unknown};
 use session::order::Order;
 use std::alloc::Global;
 use std::env;
+use std::env::Args;
 
 // How pages are written.
-#[derive(Clone, Copy)]
+#[derive(Clone, Copy, Debug, PartialEq, Eq)]
 pub enum Format {
     Text,
     Pgm,
 }
 
 // Rows from one up to before another, counted from 0.
-#[derive(Clone, Copy)]
+#[derive(Clone, Copy, Debug, PartialEq, Eq)]
 pub struct Span {
     pub from: u64,
     pub to: u64,
@@ -28,21 +32,6 @@ pub struct Options {
     pub file: String,
     pub named: bool,
     pub help: bool,
-}
-
-// What the next word of the command line is.
-#[derive(Clone, Copy)]
-enum Expected {
-    Program,
-    Word,
-    Width,
-    Height,
-    Band,
-    Keep,
-    Steps,
-    Page,
-    Rows,
-    Format,
 }
 
 fn is_number(text: &str) -> bool {
@@ -95,28 +84,10 @@ fn format_of(heap: Global, text: &str) -> Result<Format, Failure> {
     }
 }
 
-// A word where an option or a file may stand.
-fn take_word(heap: Global, o: &mut Options, word: String) -> Result<Expected, Failure> {
-    match word.as_str() {
-        "--width" => return Ok(Expected::Width),
-        "--height" => return Ok(Expected::Height),
-        "--band" => return Ok(Expected::Band),
-        "--keep" => return Ok(Expected::Keep),
-        "--steps" => return Ok(Expected::Steps),
-        "--page" => return Ok(Expected::Page),
-        "--rows" => return Ok(Expected::Rows),
-        "--format" => return Ok(Expected::Format),
-        "--help" => o.help = true,
-        _ => take_file(heap, o, word)?,
-    }
-    Ok(Expected::Word)
-}
-
+// A file, or an option that there is not.
 fn take_file(heap: Global, o: &mut Options, word: String) -> Result<(), Failure> {
     if word.as_str().starts_with("-") && word.as_str() != "-" {
-        return Err(Failure::Said(format!(in heap;
-            "unknown option {word}: --help lists the options"
-        )?));
+        return Err(unknown(heap, word.as_str()));
     }
     if o.named {
         return Err(Failure::Said(format!(in heap; "one job at a time: {word} is a second file")?));
@@ -127,40 +98,14 @@ fn take_file(heap: Global, o: &mut Options, word: String) -> Result<(), Failure>
 }
 
 // The word behind an option.
-fn take_value(
-    heap: Global,
-    o: &mut Options,
-    expected: Expected,
-    word: &str,
-) -> Result<(), Failure> {
-    match expected {
-        Expected::Program | Expected::Word => {}
-        Expected::Width => o.order.width = number(heap, "--width", word)?,
-        Expected::Height => o.order.height = number(heap, "--height", word)?,
-        Expected::Band => o.band = number_up_to(heap, "--band", word, 64)?,
-        Expected::Keep => o.order.kept = number(heap, "--keep", word)?,
-        Expected::Steps => o.order.steps = number(heap, "--steps", word)?,
-        Expected::Page => {
-            o.page = Some(number_up_to(heap, "--page", word, u64::MAX)?.saturating_sub(1));
-        }
-        Expected::Rows => o.rows = Some(rows_of(heap, word)?),
-        Expected::Format => o.format = format_of(heap, word)?,
-    }
-    Ok(())
-}
-
-// The option that lacks the word behind it.
-fn lacking(expected: Expected) -> Option<&'static str> {
-    match expected {
-        Expected::Program | Expected::Word => None,
-        Expected::Width => Some("--width"),
-        Expected::Height => Some("--height"),
-        Expected::Band => Some("--band"),
-        Expected::Keep => Some("--keep"),
-        Expected::Steps => Some("--steps"),
-        Expected::Page => Some("--page"),
-        Expected::Rows => Some("--rows"),
-        Expected::Format => Some("--format"),
+fn following(heap: Global, words: &mut Args, option: &str) -> Result<String, Failure>
+    ensures { into_iter_len words.new ≤ into_iter_len words.old }
+{
+    match words.next() {
+        Some(word) => Ok(word),
+        None => Err(Failure::Said(format!(in heap;
+            "{option} lacks the word behind it: --help says which"
+        )?)),
     }
 }
 
@@ -182,29 +127,42 @@ fn defaults(heap: Global) -> Result<Options, Failure> {
     })
 }
 
+// One word of the command line, with the word behind it where it takes one.
+fn take_word(heap: Global, o: &mut Options, word: String, rest: &mut Args) -> Result<(), Failure>
+    ensures { into_iter_len rest.new ≤ into_iter_len rest.old }
+{
+    let option = word.as_str();
+    match option {
+        "--width" => o.order.width = number(heap, option, &following(heap, rest, option)?)?,
+        "--height" => o.order.height = number(heap, option, &following(heap, rest, option)?)?,
+        "--band" => o.band = number_up_to(heap, option, &following(heap, rest, option)?, 64)?,
+        "--keep" => o.order.kept = number(heap, option, &following(heap, rest, option)?)?,
+        "--steps" => o.order.steps = number(heap, option, &following(heap, rest, option)?)?,
+        "--page" => {
+            let page = number_up_to(heap, option, &following(heap, rest, option)?, u64::MAX)?;
+            o.page = Some(page.saturating_sub(1));
+        }
+        "--rows" => o.rows = Some(rows_of(heap, &following(heap, rest, option)?)?),
+        "--format" => o.format = format_of(heap, &following(heap, rest, option)?)?,
+        "--help" => o.help = true,
+        _ => take_file(heap, o, word)?,
+    }
+    Ok(())
+}
+
 pub fn command_line(rt: &HostRuntime) -> Result<Options, Failure> {
     let heap = rt.alloc();
     let mut o = defaults(heap)?;
-    let mut expected = Expected::Program;
-    for word in env::args(rt)? {
-        expected = match expected {
-            Expected::Program => Expected::Word,
-            Expected::Word => take_word(heap, &mut o, word)?,
-            _ => {
-                take_value(heap, &mut o, expected, word.as_str())?;
-                Expected::Word
-            }
-        };
-    }
-    if let Some(option) = lacking(expected) {
-        return Err(Failure::Said(format!(in heap;
-            "{option} lacks the word behind it: --help says which"
-        )?));
+    let mut words = env::args(rt)?;
+    // the program's name
+    words.next();
+    while let Some(word) = words.next() {
+        take_word(heap, &mut o, word, &mut words)?;
     }
     if o.rows.is_some() && o.page.is_none() {
-        return Err(Failure::Said(format!(in heap;
-            "--rows needs the page that they are of, as in --page 1 --rows 0-16"
-        )?));
+        return Err(Failure::Told(
+            "--rows needs the page that they are of, as in --page 1 --rows 0-16",
+        ));
     }
     Ok(o)
 }
