@@ -11,12 +11,10 @@ const MOST: usize = 134_217_728;
 
 // So many zeros, or none where they cannot be had: the session then says that the memory is too little.
 fn numbers(heap: Global, count: usize) -> Vec<u64> {
-    if count <= MOST {
-        if let Ok(v) = vec![in heap; 0u64; count] {
-            return v;
-        }
+    if count > MOST {
+        return Vec::new(heap);
     }
-    Vec::new(heap)
+    vec![in heap; 0u64; count].unwrap_or(Vec::new(heap))
 }
 
 // The numbers to lend for a job. A text that is refused needs none.
@@ -32,8 +30,5 @@ pub fn numbers_for(heap: Global, source: &[u8], order: Order) -> Vec<u64> {
 // The bytes to lend: 64 rows. A width that is out of range is refused before they are looked at.
 pub fn bytes_for(heap: Global, order: Order) -> Vec<u8> {
     let count = order.width.min(8192) as usize * 64;
-    if let Ok(v) = vec![in heap; 0u8; count] {
-        return v;
-    }
-    Vec::new(heap)
+    vec![in heap; 0u8; count].unwrap_or(Vec::new(heap))
 }

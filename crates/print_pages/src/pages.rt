@@ -1,7 +1,9 @@
+ghost use Rattle.std.specs.Prelude.{◌≤◌};
+
 use super::options::{Format, Options, Span};
 use failure::Failure;
-use page_text::lines::{last_line, pgm_head, refusal_line};
-use page_text::page::{Missing, rows_between};
+use page_text::lines::{last_line, pgm_head};
+use page_text::page::{Missing, Rows, rows_between};
 use page_text::row::push_row;
 use session::question::{Question, Reason, Reply};
 use session::session::Session;
@@ -11,13 +13,6 @@ const CHUNK: usize = 1_048_576;
 
 // A band of a page that was shown is never refused: that is proved of the session.
 const NO_ROWS: &str = "rows of a shown page were refused: please report this";
-
-// Says by which number and at which place a job or a question is refused.
-pub fn print_refusal(rt: &HostRuntime, number: u8, place: usize) -> Result<(), Failure> {
-    let line = refusal_line(rt.alloc(), number, place)?;
-    rt.write_all(line.as_bytes())?;
-    Ok(())
-}
 
 // Rows as they are, or each as a line of text.
 fn print_rows(rt: &HostRuntime, rows: &[u8], width: usize, format: Format) -> Result<(), Failure> {
@@ -33,81 +28,86 @@ fn print_rows(rt: &HostRuntime, rows: &[u8], width: usize, format: Format) -> Re
     Ok(())
 }
 
-// The rows of a page, in chunks of as many rows as fit about a megabyte.
-fn print_span<'m>(
+// How many rows make about a megabyte.
+fn rows_at_once(width: usize) -> usize
+    ensures { 1 ≤ result }
+{
+    (CHUNK / width.max(1)).max(1)
+}
+
+// Rows of a page, in chunks of as many rows as fit about a megabyte.
+fn print_span(
     rt: &HostRuntime,
-    s: Session<'m>,
-    page: u64,
-    span: Span,
+    s: &mut Session<'_>,
+    rows: Rows,
     o: &Options,
-) -> Result<Session<'m>, Failure> {
+) -> Result<(), Failure> {
     let width = o.order.width.clamp(1, 8192) as usize;
-    let most = (CHUNK / width) as u64;
+    let most = rows_at_once(width);
     let mut chunk = vec![in rt.alloc(); 0u8; CHUNK]?;
-    let mut s = s;
-    let mut y = span.from;
-    while y < span.to {
-        let n = most.min(span.to - y).max(1);
-        let (next, put) = rows_between(s, page, y, y + n, o.band, width, chunk.as_mut_slice());
-        s = next;
-        if put.is_err() {
+    for from in (rows.from..rows.to).step_by(most) {
+        let n = (most as u64).min(rows.to - from);
+        let part = Rows {
+            from,
+            to: from + n,
+            ..rows
+        };
+        if rows_between(s, part, o.band, width, chunk.as_mut_slice()).is_err() {
             return Err(Failure::Said(String::from_str(rt.alloc(), NO_ROWS)?));
         }
-        let rows = chunk.as_slice();
-        let size = (n as usize * width).min(rows.len());
-        print_rows(rt, &rows[0..size], width, o.format)?;
-        y += n;
+        let dots = chunk.as_slice();
+        let size = (n as usize).saturating_mul(width).min(dots.len());
+        print_rows(rt, &dots[0..size], width, o.format)?;
     }
-    Ok(s)
+    Ok(())
 }
 
-// One page, with its head where the format has one.
-fn print_page<'m>(
+// Rows of a page, with a head where the format has one.
+fn print_page(
     rt: &HostRuntime,
-    s: Session<'m>,
-    page: u64,
-    span: Span,
+    s: &mut Session<'_>,
+    rows: Rows,
     o: &Options,
-) -> Result<Session<'m>, Failure> {
+) -> Result<(), Failure> {
     if let Format::Pgm = o.format {
-        let head = pgm_head(rt.alloc(), o.order.width, span.to.saturating_sub(span.from))?;
+        let head = pgm_head(rt.alloc(), o.order.width, rows.to.saturating_sub(rows.from))?;
         rt.write_all(head.as_bytes())?;
     }
-    print_span(rt, s, page, span, o)
+    print_span(rt, s, rows, o)
 }
 
-// Pages one after the other, in text with an empty line between them.
-fn print_each<'m>(
+// So many whole pages one after the other, in text with an empty line between them.
+fn print_each(
     rt: &HostRuntime,
-    s: Session<'m>,
-    first: u64,
-    behind: u64,
-    span: Span,
+    s: &mut Session<'_>,
+    pages: u32,
     o: &Options,
-) -> Result<Session<'m>, Failure> {
-    let mut s = s;
-    for page in first..behind {
+) -> Result<(), Failure> {
+    for page in 0..pages as u64 {
         if let Format::Text = o.format {
-            if page > first {
+            if page > 0 {
                 rt.write_all(b"\n")?;
             }
         }
-        s = print_page(rt, s, page, span, o)?;
+        let rows = Rows {
+            page,
+            from: 0,
+            to: o.order.height,
+        };
+        print_page(rt, s, rows, o)?;
     }
-    Ok(s)
+    Ok(())
 }
 
 // Why a page or rows of it are not printed, if they are not: nothing is printed of what is refused.
-fn refused<'m>(
-    s: Session<'m>,
-    page: u64,
-    span: Span,
-    o: &Options,
-) -> (Session<'m>, Option<Reason>) {
-    let (s, put) = rows_between(s, page, span.to, span.to, o.band, 1, &mut []);
-    match put {
-        Err(Missing::Unanswered(reason)) => (s, Some(reason)),
-        _ => (s, None),
+fn refused(s: &mut Session<'_>, rows: Rows, o: &Options) -> Option<Reason> {
+    let last = Rows {
+        from: rows.to,
+        ..rows
+    };
+    match rows_between(s, last, o.band, 1, &mut []) {
+        Err(Missing::Unanswered(reason)) => Some(reason),
+        _ => None,
     }
 }
 
@@ -121,31 +121,24 @@ fn print_end(rt: &HostRuntime, pages: u32, ending: u8, format: Format) -> Result
 }
 
 // The pages that are asked for, and how the job ends.
-pub fn print_pages<'m>(
-    rt: &HostRuntime,
-    s: Session<'m>,
-    o: &Options,
-) -> Result<Session<'m>, Failure> {
-    let (s, reply) = s.ask(Question::End);
-    let Reply::Ended { pages, ending } = reply else {
+pub fn print_pages(rt: &HostRuntime, s: &mut Session<'_>, o: &Options) -> Result<(), Failure> {
+    let Reply::Ended { pages, ending } = s.ask(Question::End) else {
         return Err(Failure::Said(String::from_str(rt.alloc(), NO_ROWS)?));
+    };
+    let Some(page) = o.page else {
+        print_each(rt, s, pages, o)?;
+        return print_end(rt, pages, ending, o.format);
     };
     let whole = Span {
         from: 0,
         to: o.order.height,
     };
-    let Some(page) = o.page else {
-        let s = print_each(rt, s, 0, pages as u64, whole, o)?;
-        print_end(rt, pages, ending, o.format)?;
-        return Ok(s);
-    };
-    let span = o.rows.unwrap_or(whole);
-    let (s, why) = refused(s, page, span, o);
-    if let Some(reason) = why {
-        print_refusal(rt, reason.number(), reason.place())?;
-        return Ok(s);
+    let Span { from, to } = o.rows.unwrap_or(whole);
+    let rows = Rows { page, from, to };
+    if let Some(reason) = refused(s, rows, o) {
+        println!(rt; "{reason}")?;
+        return Ok(());
     }
-    let s = print_page(rt, s, page, span, o)?;
-    print_end(rt, pages, ending, o.format)?;
-    Ok(s)
+    print_page(rt, s, rows, o)?;
+    print_end(rt, pages, ending, o.format)
 }
