@@ -1,11 +1,13 @@
 // How a program is called and how it ends: the number behind an option, the job that is named, and why a program ends with
 // status 1, which it says with its name in front, on standard error.
 //
-//   print_job  --width 3  square.job          print_job: unknown option --with: --help lists the options
-//                 number  read_job            end        unknown
+//   print_job --width 3 square.job     print_job: unknown option --with: --help lists the options
+//                     |     |          |          |
+//                number     read_job   end        unknown
 #![tactic(auto)]
 
-ghost use Rattle.std.specs.Prelude.{◌≤◌, IfOk};
+ghost use Rattle.std.specs.Prelude.{◌≡◌, ◌≤◌, IfOk, MatchResult};
+ghost use Rattle.std.specs.Process.{exit_status};
 
 use std::alloc::{AllocError, Global};
 use std::io::Read;
@@ -54,13 +56,7 @@ pub fn unknown(heap: Global, option: &str) -> Failure {
 }
 
 // The number behind an option, within its range.
-pub fn number(
-    heap: Global,
-    option: &str,
-    text: &str,
-    least: u64,
-    most: u64,
-) -> Result<u64, Failure>
+pub fn number(heap: Global, option: &str, text: &str, least: u64, most: u64) -> Result<u64, Failure>
     ensures { IfOk result (λ n. (least ≤ n) × (n ≤ most)) }
 {
     match text.parse::<u64>() {
@@ -89,7 +85,9 @@ pub fn read_job(rt: &HostRuntime, file: &str, advice: &str) -> Result<Vec<u8>, F
 }
 
 // Status 0 where the work is done; else status 1, with the reason behind the program's name.
-pub fn end(rt: &HostRuntime, program: &str, done: Result<(), Failure>) -> io::Result<ExitCode> {
+pub fn end(rt: &HostRuntime, program: &str, done: Result<(), Failure>) -> io::Result<ExitCode>
+    ensures { IfOk result (λ code. MatchResult done (λ _. exit_status code ≡ 0) (λ _. exit_status code ≡ 1)) }
+{
     match done {
         Ok(()) => Ok(ExitCode::SUCCESS),
         Err(e) => {

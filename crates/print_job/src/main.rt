@@ -35,12 +35,7 @@ struct Options {
 }
 
 // One word of the command line, with the number behind it where it takes one.
-fn take_word(
-    heap: Global,
-    o: &mut Options,
-    word: String,
-    rest: &mut Args,
-) -> Result<(), Failure>
+fn take_word(heap: Global, o: &mut Options, word: String, rest: &mut Args) -> Result<(), Failure>
     ensures { into_iter_len rest.new ≤ into_iter_len rest.old }
 {
     match word.as_str() {
