@@ -52,7 +52,8 @@ fn run(rt: &HostRuntime) -> Result<(), Failure> {
         return Ok(());
     }
     let advice = ": give the name of a job, or - for standard input";
-    let source = read_job(rt, o.file.as_str(), advice)?;
+    let file = o.file.as_deref().unwrap_or("-");
+    let source = read_job(rt, file, advice)?;
     print_job(rt, source.as_slice(), &o)
 }
 

@@ -21,7 +21,7 @@ pub struct Span {
     pub to: u64,
 }
 
-// What the command line asks for; pages are counted from 0 here, and the file is - where none is named.
+// What the command line asks for; pages are counted from 0 here.
 #[derive(Drop)]
 pub struct Options {
     pub order: Order,
@@ -29,21 +29,15 @@ pub struct Options {
     pub page: Option<u64>,
     pub rows: Option<Span>,
     pub format: Format,
-    pub file: String,
-    pub named: bool,
+    pub file: Option<String>,
     pub help: bool,
 }
 
 fn is_number(text: &str) -> bool {
-    for b in text.bytes() {
-        if b < b'0' || b > b'9' {
-            return false;
-        }
-    }
-    text.len() > 0
+    !text.is_empty() && text.bytes().all(|b| b.is_ascii_digit())
 }
 
-// A whole number; one beyond 64 bits is cut to the largest, which is out of every range too.
+// A whole number; one beyond 64 bits is cut to the largest, which is out of every range too. Stricter than `failure::number`: no sign.
 fn number(heap: Global, option: &str, text: &str) -> Result<u64, Failure> {
     if !is_number(text) {
         return Err(Failure::Said(format!(in heap; "{option} takes a whole number, not '{text}'")?));
@@ -89,11 +83,10 @@ fn take_file(heap: Global, o: &mut Options, word: String) -> Result<(), Failure>
     if word.as_str().starts_with("-") && word.as_str() != "-" {
         return Err(unknown(heap, word.as_str()));
     }
-    if o.named {
+    if o.file.is_some() {
         return Err(Failure::Said(format!(in heap; "one job at a time: {word} is a second file")?));
     }
-    o.file = word;
-    o.named = true;
+    o.file = Some(word);
     Ok(())
 }
 
@@ -109,8 +102,8 @@ fn following(heap: Global, words: &mut Args, option: &str) -> Result<String, Fai
     }
 }
 
-fn defaults(heap: Global) -> Result<Options, Failure> {
-    Ok(Options {
+fn defaults() -> Options {
+    Options {
         order: Order {
             steps: 1_000_000_000,
             width: 64,
@@ -121,10 +114,9 @@ fn defaults(heap: Global) -> Result<Options, Failure> {
         page: None,
         rows: None,
         format: Format::Text,
-        file: String::from_str(heap, "-")?,
-        named: false,
+        file: None,
         help: false,
-    })
+    }
 }
 
 // One word of the command line, with the word behind it where it takes one.
@@ -152,7 +144,7 @@ fn take_word(heap: Global, o: &mut Options, word: String, rest: &mut Args) -> Re
 
 pub fn command_line(rt: &HostRuntime) -> Result<Options, Failure> {
     let heap = rt.alloc();
-    let mut o = defaults(heap)?;
+    let mut o = defaults();
     let mut words = env::args(rt)?;
     // the program's name
     words.next();

@@ -53,7 +53,7 @@ fn print_span(
             ..rows
         };
         if rows_between(s, part, o.band, width, chunk.as_mut_slice()).is_err() {
-            return Err(Failure::Said(String::from_str(rt.alloc(), NO_ROWS)?));
+            return Err(Failure::Told(NO_ROWS));
         }
         let dots = chunk.as_slice();
         let size = (n as usize).saturating_mul(width).min(dots.len());
@@ -123,7 +123,7 @@ fn print_end(rt: &HostRuntime, pages: u32, ending: u8, format: Format) -> Result
 // The pages that are asked for, and how the job ends.
 pub fn print_pages(rt: &HostRuntime, s: &mut Session<'_>, o: &Options) -> Result<(), Failure> {
     let Reply::Ended { pages, ending } = s.ask(Question::End) else {
-        return Err(Failure::Said(String::from_str(rt.alloc(), NO_ROWS)?));
+        return Err(Failure::Told(NO_ROWS));
     };
     let Some(page) = o.page else {
         print_each(rt, s, pages, o)?;
