@@ -17,4 +17,4 @@
 #![tactic(auto)]
 
 pub mod page;
-pub mod sink;
+mod sink;

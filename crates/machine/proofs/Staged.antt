@@ -6,7 +6,7 @@ use Rattle.tokens.specs.Token.{Token, number, does, name, quoted, body, Tokens, 
 use Rattle.tokens.specs.Stage.{whole}
 use Rattle.machine.specs.Machine.{State, Frame, Binding, Manner, Value, amount, code, label, Went, on, ends, with_stack, with_frames, push, push_number, with_one, with_two, with_code, enter, placed, near_enough, go_to, line_to, whole_path, points_in_all, bind, top_one, top_two, back_to, found, rebound, call, operate, run_token, advance, step_in, go_on, run, begin}
 use Rattle.machine.specs.Numbers.{unsupported}
-use Rattle.machine.specs.Stage.{operate_of, run_token_of, advance_of, step_by_frame, run_of, StagesAreWhole, WholeIsWhole}
+use Rattle.machine.specs.Stage.{operate_of, run_token_of, advance_of, step_by_frame, run_of, StagesAreWhole, StepIsWhole, WholeIsWhole}
 
 module _ (can : ℕ → Bool) where
   abbrev Fit : Value → Type 0
@@ -241,6 +241,9 @@ every_on : (w : Went) (f g : State → Went) → ((t : State) → f t ≡ g t) �
 unfolding go_on
 every_on (on s) f g same = same s
 every_on (ends e s) f g same = refl
+
+pub step_is_whole : StepIsWhole
+step_is_whole s = every_step s s.frames
 
 pub whole_is_whole : WholeIsWhole
 unfolding run_of run

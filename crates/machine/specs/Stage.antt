@@ -2,7 +2,7 @@
 use Rattle.std.specs.Prelude.{◌≡◌, ℕ, zero, suc, Bool, cond, List, [], ◌∷◌}
 use Rattle.tokens.specs.Token.{Token, number, does, name, quoted, body, Tokens, none, more, Operator, number_of, AllInRange}
 use Rattle.tokens.specs.Stage.{stage, whole}
-use Rattle.machine.specs.Machine.{Frame, State, Went, ends, with_frames, operate, run_token, advance, go_on, at_end, run, begin}
+use Rattle.machine.specs.Machine.{Frame, State, Went, ends, with_frames, operate, run_token, advance, step, go_on, at_end, run, begin}
 use Rattle.machine.specs.Numbers.{unsupported}
 
 -- what a stage can do, by the numbers of operators
@@ -39,6 +39,10 @@ StagesAreWhole = (can : ℕ → Bool) (ts : Tokens) (n : ℕ) → AllInRange can
 -- the stage of all operators is the whole machine, from any state
 abbrev pub WholeIsWhole : Type 0
 WholeIsWhole = (n : ℕ) (s : State) → run_of whole n s ≡ run n s
+
+-- and each step of it is a step of the whole machine
+abbrev pub StepIsWhole : Type 0
+StepIsWhole = (s : State) → step_of whole s ≡ step s
 
 -- the stage that was first
 abbrev pub step_in_stage : State → Went

@@ -1,6 +1,6 @@
 ghost use Rattle.std.specs.Prelude.{◌≡◌, ℕ, ◌≤◌, true};
 ghost use Rattle.std.proofs.Common.{rules};
-ghost use Rattle.machine.specs.Stage.{StageIsWhole, StagesAreWhole, WholeIsWhole};
+ghost use Rattle.machine.specs.Stage.{StageIsWhole, StagesAreWhole, StepIsWhole, WholeIsWhole};
 
 use tokens::{Stage, Thin, Whole};
 
@@ -38,9 +38,10 @@ pub fn stages_are_whole() -> u8
     0
 }
 
-// and a run of the stage of all operators is one of the whole machine, from any state
+// and a run of the stage of all operators is one of the whole machine, from any state, step by step
 pub fn whole_is_whole() -> u8
-    ensures { WholeIsWhole }
+    ensures runs { WholeIsWhole }
+    ensures steps { StepIsWhole }
 {
     0
 }

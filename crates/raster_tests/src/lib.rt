@@ -32,13 +32,7 @@ mod tests {
 
     // How many dots of a row are not white.
     fn painted_dots(row: &[u8]) -> usize {
-        let mut n = 0usize;
-        for dot in row {
-            if *dot != 255 {
-                n = n.saturating_add(1);
-            }
-        }
-        n
+        row.iter().filter(|dot| **dot != 255).count()
     }
 
     // The square from (8, 8) to (24, 24): its left and upper corners are on the middle of dot 0, the others on that of dot 1.

@@ -1,5 +1,5 @@
 -- Laws of runs, each a statement whose proof is owed where a function's contract names it. Assumes nothing: these are definitions.
-use Rattle.std.specs.Prelude.{◌≡◌, ℕ, ◌≤◌, Bool, true, List, length}
+use Rattle.std.specs.Prelude.{◌≡◌, ℕ, ◌≤◌, Bool, true, false, List, length}
 use Rattle.path.specs.Path.{Paint}
 use Rattle.tokens.specs.Token.{Tokens}
 use Rattle.tokens.specs.Stored.{all_stored, decode}
@@ -8,7 +8,7 @@ use Rattle.machine.specs.Machine.{State, Went, run, begin}
 use Rattle.machine.specs.Laws.{state_of, end_of}
 use Rattle.machine.specs.Stage.{run_of}
 use Rattle.run.specs.declared.drive.Ending.{Ending}
-use Rattle.run.specs.Sinks.{ending_number, past_of, told, Driven}
+use Rattle.run.specs.Sinks.{ending_number, is_stopped, past_of, told, Driven}
 
 -- a text that a stage does not refuse runs, stored, as its tokens do on the whole written machine: by the stage, and by the whole machine too
 abbrev pub TextRunsWhole : (ℕ → Bool) → Type 0
@@ -16,8 +16,8 @@ TextRunsWhole can =
     (bs : List ℕ) (ts : Tokens) (n : ℕ) → read can bs ≡ tokens ts →
     (run_of can n (begin (decode (all_stored ts))) ≡ run n (begin ts)) × (run n (begin (decode (all_stored ts))) ≡ run n (begin ts))
 
--- a sink that always wants more is told all of a run: it ends as the written run does, and has shown no more pages than it had steps
+-- a sink that always wants more stops no run and is told all of it: it ends as the written run does, and has shown no more pages than it had steps
 abbrev pub ToldToTheEnd : {V : Type 0} → (Paint → V → V) → (V → V) → Type 0
 ToldToTheEnd {V} paint page =
     (runs : ℕ → State → Went) (r : Ending) (n : ℕ) (s : State) (v w : V) → Driven runs paint page (λ x. true) r n s v w →
-    (ending_number r ≡ end_of (runs n s)) × (w ≡ told paint page (past_of (runs n s)) v) × (length (state_of (runs n s)).pages ≤ n)
+    (is_stopped r ≡ false) × (ending_number r ≡ end_of (runs n s)) × (w ≡ told paint page (past_of (runs n s)) v) × (length (state_of (runs n s)).pages ≤ n)

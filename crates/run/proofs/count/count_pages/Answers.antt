@@ -52,5 +52,6 @@ returns g c =
       pages = exact _ d.taken (past_of (run_of g.S.Stage.can d.taken first)) d.seen d.few (omega arith) ∙ ap (λ n. length (state_of (run_of g.S.Stage.can n first)).pages) all;
       words = c.run_job-ending.ensures.words;
       clips = c.run_job-ending.ensures.clips;
+      whole = runs;
       ended = d.ended runs;
     }

@@ -6,7 +6,8 @@ use Rattle.run.proofs.laws.told_to_the_end.Goals as goal
 
 pub returns : goal.returns
 returns g c = λ runs r n s v w d.
-    let all = d.whole (goes_on r d.enough) in
+    let runs_on = goes_on r d.enough in
+    let all = d.whole runs_on in
     let few = d.few in
     let k = ap (λ m. length (state_of (runs m s)).pages) all in
-    (d.ended (goes_on r d.enough), d.seen ∙ ap (λ m. told g.E.Sink.paint g.E.Sink.page (past_of (runs m s)) v) all, omega arith)
+    (runs_on, d.ended runs_on, d.seen ∙ ap (λ m. told g.E.Sink.paint g.E.Sink.page (past_of (runs m s)) v) all, omega arith)
