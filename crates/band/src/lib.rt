@@ -17,4 +17,4 @@
 #![tactic(auto)]
 
 pub mod page;
-mod sink;
+pub mod sink;

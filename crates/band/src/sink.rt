@@ -2,7 +2,7 @@ ghost use Rattle.std.specs.Prelude.{◌≡◌, ◌*◌, ◌≤◌, not, [], ◌�
 ghost use Rattle.band.specs.Canvas.{Canvas, paint_onto, page_over};
 
 use path::extent::Extent;
-use raster::band::Band;
+pub use raster::band::Band;
 use raster::thing::Thing;
 use run::drive::Sink;
 

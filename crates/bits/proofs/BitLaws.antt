@@ -1,7 +1,7 @@
 -- Bits of a word: of a sum without carry, of a shift, of a power of two, of a word of ones.
-use Rattle.std.proofs.Common.{min, ◌≡◌, ℕ, zero, suc, ◌+◌, ◌-◌, ◌*◌, ◌/◌, ◌%◌, ◌^◌, ◌<◌, ◌≤◌, Bool, true, false, ◌&&◌, eqb, sym, refl, ap, ◌∙◌, inl, inr, mul_assoc, zero-add, arith, pow-add, shr-shr}
+use Rattle.std.proofs.Common.{min, ◌≡◌, ℕ, zero, suc, ◌+◌, ◌-◌, ◌*◌, ◌/◌, ◌%◌, ◌^◌, ◌<◌, ◌≤◌, Bool, true, false, ◌&&◌, eqb, sym, refl, ap, ◌∙◌, inl, inr, mod-lt, mul_assoc, zero-add, arith, pow_pos, pow_mono, pow-add, shr-shr}
 use mathlib.Core.Bool.{xor}
-use native.Mathlib.Nat.{div-lt_self, add-mul-mod_self_right}
+use native.Mathlib.Nat.{div-eq_of_lt, div-lt_self, add-mul-mod_self_right}
 use lib.Bits.{bit_and, bit_xor}
 use lib.Pow.{shl-shr, field, mod-mod-pow, pow-lt}
 use Rattle.std.proofs.lemmas.Bool.{cases_eq, eq-eqb, ne_eqb}
@@ -90,6 +90,13 @@ bit_mod_below a m k lt =
     ap (λ n. eqb (a % 2 ^ n / 2 ^ k % 2) 1) e
     ∙ ap (λ n. eqb (n % 2) 1) (field a (m - suc k + 1) k)
     ∙ ap (λ n. eqb n 1) (mod-mod-pow (a / 2 ^ k) (m - suc k) 1)
+
+pub bit_mod_above : (a m k : ℕ) → m ≤ k → bit (a % 2 ^ m) k ≡ false
+unfolding bit
+bit_mod_above a m k le =
+    let h = mod-lt a {m = 2 ^ m} (pow_pos m) in
+    let p = pow_mono {i = m} {j = k} le in
+    ap (λ n. eqb (n % 2) 1) (div-eq_of_lt {n = a % 2 ^ m} {m = 2 ^ k} (omega arith))
 
 -- a shift to the left
 bit_times_above : (a j k : ℕ) → j ≤ k → bit (a * 2 ^ j) k ≡ bit a (k - j)

@@ -6,8 +6,10 @@
 //                number     read_job   end        unknown
 #![tactic(auto)]
 
-ghost use Rattle.std.specs.Prelude.{◌≡◌, ◌≤◌, IfOk, MatchResult};
+ghost use Rattle.std.specs.Prelude.{◌≡◌, ◌≤◌, IfErr, IfOk, MatchResult, ⊤};
 ghost use Rattle.std.specs.Process.{exit_status};
+ghost use Rattle.failure.specs.Messages.{Message, unknown_bytes};
+ghost use Rattle.failure.specs.declared.Failure.TheVariants.{NoMemory};
 
 use std::alloc::{AllocError, Global};
 use std::io::Read;
@@ -25,6 +27,8 @@ pub enum Failure {
 }
 
 impl From<AllocError> for Failure {
+    ghost from_gives = { λ _ failure. failure ≡ NoMemory };
+
     fn from(_e: AllocError) -> Failure {
         Failure::NoMemory
     }
@@ -48,7 +52,9 @@ impl fmt::Display for Failure {
 }
 
 // No program has this option.
-pub fn unknown(heap: Global, option: &str) -> Failure {
+pub fn unknown(heap: Global, option: &str) -> Failure
+    ensures { Message (λ bytes. bytes ≡ unknown_bytes option.now) result }
+{
     match format!(in heap; "unknown option {option}: --help lists the options") {
         Ok(message) => Failure::Said(message),
         Err(e) => Failure::from(e),
@@ -77,7 +83,9 @@ fn bytes_of(rt: &HostRuntime, file: &str) -> io::Result<Vec<u8>> {
 }
 
 // The bytes of a file, or of standard input where it is -. Where they cannot be read, the advice stands behind the reason.
-pub fn read_job(rt: &HostRuntime, file: &str, advice: &str) -> Result<Vec<u8>, Failure> {
+pub fn read_job(rt: &HostRuntime, file: &str, advice: &str) -> Result<Vec<u8>, Failure>
+    ensures { IfErr result (λ e. Message (λ _. ⊤) e) }
+{
     match bytes_of(rt, file) {
         Ok(bytes) => Ok(bytes),
         Err(e) => Err(Failure::Said(format!(in rt.alloc(); "cannot read {file}: {e}{advice}")?)),

@@ -1,4 +1,5 @@
 pub mod Laws
+pub mod Printing
 pub mod Stage
 pub mod Stored
 pub mod Token

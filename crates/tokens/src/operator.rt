@@ -1,4 +1,5 @@
-ghost use Rattle.std.specs.Prelude.{◌≡◌};
+ghost use Rattle.std.specs.Prelude.{◌≡◌, Some};
+ghost use Rattle.tokens.specs.Printing.{unknown_bytes};
 ghost use Rattle.tokens.specs.Token.{number_of};
 ghost use Rattle.tokens.specs.Stored.{operator_of, KnownBy};
 
@@ -35,6 +36,8 @@ pub enum Operator {
 pub struct UnknownOperator(pub u64);
 
 impl fmt::Display for UnknownOperator {
+    ghost output = { λ e. Some (unknown_bytes e) };
+
     fn fmt<W: fmt::Write>(&self, f: &mut fmt::Formatter<W>) -> fmt::Result {
         write!(f, "no operator has number {}", self.0)
     }

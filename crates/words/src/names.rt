@@ -1,4 +1,4 @@
-ghost use Rattle.std.specs.Prelude.{◌≡◌, []};
+ghost use Rattle.std.specs.Prelude.{◌≡◌, ◌≤◌, [], length};
 ghost use Rattle.words.specs.Naming.{words_of, Entered};
 
 use arrayvec::ArrayVec;
@@ -19,6 +19,14 @@ impl<'a> Names<'a> {
         Names {
             words: ArrayVec::new(),
         }
+    }
+
+    // How many names are known.
+    pub fn len(&self) -> usize
+        ensures value { result ≡ length (words_of self.now) }
+        ensures bound { result ≤ 256 }
+    {
+        self.words.len()
     }
 
     // The number of a name, which is entered where it is new; none where there is no room for one more.
