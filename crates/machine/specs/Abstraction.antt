@@ -77,10 +77,10 @@ module _ {X : Type 0} {G : Ghosts X} {S : stage.Ghosts X} where
 
   -- the top of the stack, and the innermost frame, come first
   abbrev pub stack_of : Machine X G S → List Value
-  stack_of m = map value_of (top_down m.values)
+  stack_of m = map value_of (top_down m.values.now)
 
   abbrev pub frames_of : Machine X G S → List Frame
-  frames_of m = map frame_of (top_down m.frames)
+  frames_of m = map frame_of (top_down m.frames.now)
 
   abbrev pub names_of : Machine X G S → List Binding
   names_of m = bindings_of m.names

@@ -28,8 +28,8 @@ pub struct Frame<'a> {
 // What a job has while it runs, but for its path and for what it has painted.
 #[derive(Drop)]
 pub struct Machine<'s, 'a, S: Clipping> {
-    values: Stack<Value<'a>, 256>,
-    frames: Stack<Frame<'a>, 64>,
+    values: &'s mut Stack<Value<'a>, 256>,
+    frames: &'s mut Stack<Frame<'a>, 64>,
     names: Bindings<'s, 'a>,
     drawing: Drawing<'s, S>,
 }

@@ -6,8 +6,9 @@ ghost use Rattle.run.specs.Sinks.{Driven};
 
 use crate::drive::{Ending, Sink, drive};
 use machine::stage::Clipping;
-use machine::state::Machine;
+use machine::state::{Frame, Machine, Value};
 use path::builder::Path;
+use stack::Stack;
 
 // all words 0
 fn clear_words(words: &mut [u64])
@@ -28,9 +29,21 @@ fn run_over<S: Clipping, E: Sink>(
     ensures driven { Driven (run_of S.can) E.Sink.paint E.Sink.page E.Sink.more result steps (begin (decode tokens.now)) (E.Sink.view sink.old) (E.Sink.view sink.new) }
     ensures lent { E.Sink.lent sink.new ≡ E.Sink.lent sink.old }
 {
+    let mut values = Stack::new(Value::Number(0));
+    let mut frames = Stack::new(Frame {
+        rest: tokens,
+        again: 0,
+        whole: tokens,
+    });
     let mut meanings = [None; 256];
     let mut path = Path::new(words);
-    let mut m: Machine<'_, '_, S> = Machine::begin(tokens, &mut meanings, clips);
+    let mut m: Machine<'_, '_, S> = Machine::begin(
+        tokens,
+        &mut values,
+        &mut frames,
+        &mut meanings,
+        clips,
+    );
     drive(&mut m, &mut path, sink, steps)
 }
 

@@ -70,6 +70,12 @@ impl<T: Copy + Drop, const N: usize> Stack<T, N> {
         }
     }
 
+    pub fn clear(&mut self)
+        ensures { top_down self.new ≡ [] }
+    {
+        self.len = 0;
+    }
+
     // All but the uppermost `n`.
     pub fn drop_top(&mut self, n: usize)
         ensures { top_down self.new ≡ drop n (top_down self.old) }

@@ -8,7 +8,12 @@ use crate::state::Value;
 fn forget<'a>(meanings: &mut [Option<Value<'a>>])
     ensures { meanings.new ≡ replicate (length meanings.old) None }
 {
-    meanings.fill(None);
+    // where nothing is meant nothing is written: this is done at each run
+    for meaning in meanings.iter_mut() {
+        if meaning.is_some() {
+            *meaning = None;
+        }
+    }
 }
 
 impl<'s, 'a> Bindings<'s, 'a> {

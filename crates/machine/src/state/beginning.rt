@@ -13,25 +13,26 @@ use path::builder::Path;
 use stack::Stack;
 
 impl<'s, 'a, S: Clipping> Machine<'s, 'a, S> {
-    // A machine at the beginning of its tokens.
-    // The meanings of names stand in the caller.
+    // A machine at the beginning of its tokens. What is large of it stands in the caller, so that none of that is copied.
     pub fn begin(
         tokens: &'a [u64],
+        values: &'s mut Stack<Value<'a>, 256>,
+        frames: &'s mut Stack<Frame<'a>, 64>,
         meanings: &'s mut [Option<Value<'a>>],
         clips: &'s mut [u64],
     ) -> Machine<'s, 'a, S>
         requires { (length meanings.old ≡ 256) × (S.clip_room ≤ length clips.old) }
         ensures { (p : Path) → rings_of p ≡ [] → ring_of p ≡ [] → state result p no_past ≡ begin (decode tokens.now) }
     {
-        let first = Frame {
+        values.clear();
+        frames.clear();
+        frames.push(Frame {
             rest: tokens,
             again: 0,
             whole: &tokens[0..0],
-        };
-        let mut frames = Stack::new(first);
-        frames.push(first);
+        });
         Machine {
-            values: Stack::new(Value::Number(0)),
+            values,
             frames,
             names: Bindings::new(meanings),
             drawing: Drawing::new(clips),

@@ -8,5 +8,5 @@ use Rattle.machine.proofs.state.Machine.begin.Goals as goal
 pub returns : goal.returns
 returns g c =
     λ p a b.
-    same_begun (ap (map value_of) c.new.ensures) c.new-2.ensures a b c.new-3.ensures.manner c.new-3.ensures.saved
-    (ap (map frame_of) c.push.ensures ∙ ap {B = List Frame} (λ l. record { rest = decode c.args.tokens.now; again = 0; whole = decode [] } ∷ map frame_of l) c.new-frames.ensures ∙ ap {B = List Frame} (λ x. record { rest = decode c.args.tokens.now; again = 0; whole = x } ∷ []) nothing)
+    same_begun (ap (map value_of) c.clear.ensures) c.new.ensures a b c.new-2.ensures.manner c.new-2.ensures.saved
+    (ap (map frame_of) c.push.ensures ∙ ap {B = List Frame} (λ l. record { rest = decode c.args.tokens.now; again = 0; whole = decode [] } ∷ map frame_of l) c.clear-2.ensures ∙ ap {B = List Frame} (λ x. record { rest = decode c.args.tokens.now; again = 0; whole = x } ∷ []) nothing)

@@ -13,7 +13,7 @@ returns g c =
     let m = c.args.self.now in
     let fs = frames_of m in
     let pushed = c.in_ok-try_push.ensures in
-    let l = length-map (top_down m.frames) frame_of in
+    let l = length-map (top_down m.frames.now) frame_of in
     let lt = pushed.variant.0 refl in
     λ p t.
     ap (λ x. on (with_frames (state m p t) x)) (ap (map frame_of) pushed.ok ∙ ap {B = List Frame} (λ r. record { rest = r; again = c.args.again; whole = decode c.args.body.now } ∷ fs) nothing)

@@ -13,4 +13,4 @@ ended [] s = refl
 ended (f ∷ fs) s = sym (ap (λ b. if b then 0 else 8) (ne_eqb (length (f ∷ fs)) 0 (λ e. omega arith)))
 
 pub returns : goal.returns
-returns g c = λ s. ended (top_down c.args.self.now.frames) s ∙ sym (ap (λ b. if b then 0 else 8) c.is_empty.ensures)
+returns g c = λ s. ended (top_down c.args.self.now.frames.now) s ∙ sym (ap (λ b. if b then 0 else 8) c.is_empty.ensures)

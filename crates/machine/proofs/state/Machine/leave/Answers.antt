@@ -8,4 +8,4 @@ use Rattle.machine.proofs.state.Machine.leave.Goals as goal
 pub returns : goal.returns
 returns g c =
     let m = c.args.self.now in
-    λ p t. ap (with_frames (state m p t)) (ap (map frame_of) c.drop_top.ensures ∙ tail_is frame_of (top_down m.frames))
+    λ p t. ap (with_frames (state m p t)) (ap (map frame_of) c.drop_top.ensures ∙ tail_is frame_of (top_down m.frames.now))

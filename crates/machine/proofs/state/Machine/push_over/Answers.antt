@@ -10,7 +10,7 @@ use Rattle.machine.proofs.state.Machine.push_over.Goals as goal
 pub returns : goal.returns
 returns g c =
     let m = c.args.self.now in
-    let vs = top_down m.values in
+    let vs = top_down m.values.now in
     let n = c.args.n in
     let us = drop n (stack_of m) in
     let pushed = c.in_ok-try_push_over.ensures in

@@ -8,4 +8,4 @@ use Rattle.machine.proofs.state.Machine.replace_top.Goals as goal
 pub returns : goal.returns
 returns g c =
     let m = c.args.self.now in
-    λ p t. ap (with_frames (state m p t)) (ap (map frame_of) c.set.ensures ∙ topped_is (top_down m.frames) c.args.f)
+    λ p t. ap (with_frames (state m p t)) (ap (map frame_of) c.set.ensures ∙ topped_is (top_down m.frames.now) c.args.f)

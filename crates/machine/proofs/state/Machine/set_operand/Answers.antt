@@ -8,4 +8,4 @@ use Rattle.machine.proofs.state.Machine.set_operand.Goals as goal
 pub returns : goal.returns
 returns g c =
     let m = c.args.self.now in
-    λ p t. ap (with_stack (state m p t)) (ap (map value_of) c.set.ensures ∙ map-set value_of (top_down m.values) c.args.below c.args.v)
+    λ p t. ap (with_stack (state m p t)) (ap (map value_of) c.set.ensures ∙ map-set value_of (top_down m.values.now) c.args.below c.args.v)

@@ -4,4 +4,4 @@ use Rattle.machine.proofs.Looking.{top_is}
 use Rattle.machine.proofs.state.Machine.top.Goals as goal
 
 pub returns : goal.returns
-returns g c = top_is frame_of (top_down c.args.self.now.frames) c.at.result c.at.ensures
+returns g c = top_is frame_of (top_down c.args.self.now.frames.now) c.at.result c.at.ensures
