@@ -1,7 +1,7 @@
-ghost use Rattle.std.specs.Prelude.{◌≡◌, ◌+◌, ◌≤◌, [], ◌∷◌, length, MatchOption};
+ghost use Rattle.std.specs.Prelude.{◌≡◌, ◌+◌, ◌<◌, ◌≤◌, [], ◌∷◌, length, MatchOption};
 ghost use Rattle.std.specs.Iterator.{YieldsFirstBy, at_most};
 ghost use Rattle.path.specs.Points.{point_of};
-ghost use Rattle.path.specs.Reading.{points_left, rings_left, paths_left};
+ghost use Rattle.path.specs.Reading.{points_ahead, rings_ahead, paths_ahead, points_left, rings_left, paths_left};
 ghost use Rattle.path.specs.Stored.{pieces, points_in, rings_in, paths_in};
 
 use super::corner::{Corner, LIMIT};
@@ -27,20 +27,24 @@ pub struct Points<'a> {
 
 impl<'a> Points<'a> {
     pub fn new(words: &'a [u64]) -> Points<'a>
-        ensures { points_left result ≡ points_in words.now }
+        ensures points { points_left result ≡ points_in words.now }
+        ensures words { points_ahead result ≡ words.now }
     {
         Points { words }
     }
-}
 
-impl<'a> Iterator for Points<'a> {
-    type Item = Corner;
+    // What is still to be read, as words.
+    pub fn words(self) -> &'a [u64]
+        ensures { result.now ≡ points_ahead self.entry }
+    {
+        self.words
+    }
 
-    ghost next_gives = { YieldsFirstBy point_of points_left };
-
-    ghost remaining = { λ s. at_most (length s.words.now) };
-
-    fn next(&mut self) -> Option<Corner> {
+    // The next point, as a `for` is given it. Of this call it is said too how many words it takes and leaves.
+    pub fn next(&mut self) -> Option<Corner>
+        ensures steps { YieldsFirstBy point_of points_left self.old result self.new }
+        ensures rest { MatchOption result ((length (points_ahead self.old) < 2) × (self.new ≡ self.old)) (λ _. length (points_ahead self.new) + 2 ≡ length (points_ahead self.old)) }
+    {
         let [x, y, others @ ..] = self.words else {
             return None;
         };
@@ -52,6 +56,18 @@ impl<'a> Iterator for Points<'a> {
     }
 }
 
+impl<'a> Iterator for Points<'a> {
+    type Item = Corner;
+
+    ghost next_gives = { YieldsFirstBy point_of points_left };
+
+    ghost remaining = { λ s. at_most (length s.words.now) };
+
+    fn next(&mut self) -> Option<Corner> {
+        Points::next(self)
+    }
+}
+
 // The subpaths of a path, read from its words. Any words are some subpaths.
 #[derive(Clone, Copy)]
 pub struct Subpaths<'a> {
@@ -60,9 +76,27 @@ pub struct Subpaths<'a> {
 
 impl<'a> Subpaths<'a> {
     pub fn new(words: &'a [u64]) -> Subpaths<'a>
-        ensures { rings_left result ≡ rings_in words.now }
+        ensures rings { rings_left result ≡ rings_in words.now }
+        ensures words { rings_ahead result ≡ words.now }
     {
         Subpaths { words }
+    }
+
+    // What is still to be read, as words.
+    pub fn words(self) -> &'a [u64]
+        ensures { result.now ≡ rings_ahead self.entry }
+    {
+        self.words
+    }
+
+    // The next subpath, as a `for` is given it. Of this call it is said too how many words it takes and leaves.
+    pub fn next(&mut self) -> Option<Points<'a>>
+        ensures steps { YieldsFirstBy points_left rings_left self.old result self.new }
+        ensures rest { MatchOption result ((length (rings_ahead self.old) ≡ 0) × (self.new ≡ self.old)) (λ p. length (points_ahead p) + length (rings_ahead self.new) + 1 ≡ length (rings_ahead self.old)) }
+    {
+        let (points, others) = first_piece(self.words, 2)?;
+        self.words = others;
+        Some(Points::new(points))
     }
 }
 
@@ -74,9 +108,7 @@ impl<'a> Iterator for Subpaths<'a> {
     ghost remaining = { λ s. at_most (length s.words.now) };
 
     fn next(&mut self) -> Option<Points<'a>> {
-        let (points, others) = first_piece(self.words, 2)?;
-        self.words = others;
-        Some(Points::new(points))
+        Subpaths::next(self)
     }
 }
 
@@ -88,9 +120,27 @@ pub struct Clips<'a> {
 
 impl<'a> Clips<'a> {
     pub fn new(words: &'a [u64]) -> Clips<'a>
-        ensures { paths_left result ≡ paths_in words.now }
+        ensures paths { paths_left result ≡ paths_in words.now }
+        ensures words { paths_ahead result ≡ words.now }
     {
         Clips { words }
+    }
+
+    // What is still to be read, as words.
+    pub fn words(self) -> &'a [u64]
+        ensures { result.now ≡ paths_ahead self.entry }
+    {
+        self.words
+    }
+
+    // The next path, as a `for` is given it. Of this call it is said too how many words it takes and leaves.
+    pub fn next(&mut self) -> Option<Subpaths<'a>>
+        ensures steps { YieldsFirstBy rings_left paths_left self.old result self.new }
+        ensures rest { MatchOption result ((length (paths_ahead self.old) ≡ 0) × (self.new ≡ self.old)) (λ p. length (rings_ahead p) + length (paths_ahead self.new) + 1 ≡ length (paths_ahead self.old)) }
+    {
+        let (path, others) = first_piece(self.words, 1)?;
+        self.words = others;
+        Some(Subpaths::new(path))
     }
 }
 
@@ -102,8 +152,6 @@ impl<'a> Iterator for Clips<'a> {
     ghost remaining = { λ s. at_most (length s.words.now) };
 
     fn next(&mut self) -> Option<Subpaths<'a>> {
-        let (path, others) = first_piece(self.words, 1)?;
-        self.words = others;
-        Some(Subpaths::new(path))
+        Clips::next(self)
     }
 }

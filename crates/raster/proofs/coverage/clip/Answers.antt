@@ -17,7 +17,7 @@ loop-path-preserved c = (
 
 pub returns : goal.returns
 returns c =
-    let begun = ap paths_left c.into_iter-path-iterator.ensures.into_iter_gives ∙ c.new-path-items.ensures in
+    let begun = ap paths_left c.into_iter-path-iterator.ensures.into_iter_gives ∙ c.new-path-items.ensures.paths in
     λ x.
     all_none (paths_left c.loop-path.path-iterator) (16 * x + 8) c.args.level (bit_at c.loop-path.row.words x) c.in-None.ensures.steps.0
     ∙ c.loop-path.invariant.0 x

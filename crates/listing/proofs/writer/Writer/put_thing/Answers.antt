@@ -11,6 +11,6 @@ use Rattle.listing.proofs.writer.Writer.put_thing.Goals as goal
 pub returns : goal.returns
 unfolding thing_lines clips_in
 returns c =
-    let path = put_as (ap (path_lines 2) c.new.ensures) c.put_path.ensures in
-    let oldest = ap (flat_map clip_lines) (c.new-2.ensures ∙ sym (reverse-reverse (paths_in c.args.clips.now))) in
+    let path = put_as (ap (path_lines 2) c.new.ensures.rings) c.put_path.ensures in
+    let oldest = ap (flat_map clip_lines) (c.new-2.ensures.paths ∙ sym (reverse-reverse (paths_in c.args.clips.now))) in
     then_put c.put_text.ensures (then_put c.put_number.ensures (then_put c.put_text-2.ensures (then_put path (put_as oldest c.put_clips.ensures))))

@@ -1,5 +1,5 @@
 use Rattle.path.proofs.StoredLaws.{paths_split, paths_over}
-use Rattle.path.proofs.stored.ClipsIterator.next.Goals as goal
+use Rattle.path.proofs.stored.Clips.next.Goals as goal
 
 pub returns-in_err-path-clause-steps : goal.returns-in_err-path-clause-steps
 returns-in_err-path-clause-steps c =
@@ -7,4 +7,4 @@ returns-in_err-path-clause-steps c =
     rw c.from_residual.ensures (none, none)
 
 pub returns-clause-steps : goal.returns-clause-steps
-returns-clause-steps c = rw c.new.ensures (paths_split c.args.self.now.words.now _ _ c.in_ok-path.ensures.cases)
+returns-clause-steps c = rw c.new.ensures.rings (paths_split c.args.self.now.words.now _ _ c.in_ok-path.ensures.cases)

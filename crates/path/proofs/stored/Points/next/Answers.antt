@@ -2,10 +2,10 @@ use Rattle.std.proofs.Common.{◌%◌, ◌∷◌, get_or, sym, ap, ◌∙◌, ar
 use Rattle.std.proofs.lemmas.List.{take_rest}
 use Rattle.path.specs.Stored.{points_in}
 use Rattle.path.proofs.StoredLaws.{points_short, points_more}
-use Rattle.path.proofs.stored.PointsIterator.next.Goals as goal
+use Rattle.path.proofs.stored.Points.next.Goals as goal
 
 pub returns-in_default-clause-steps : goal.returns-in_default-clause-steps
-returns-in_default-clause-steps c = let none = points_short c.args.self.now.words.now (omega arith) in (none, none)
+returns-in_default-clause-steps c = (points_short _ (omega arith), points_short _ (omega arith))
 
 pub returns-clause-steps : goal.returns-clause-steps
 returns-clause-steps c =

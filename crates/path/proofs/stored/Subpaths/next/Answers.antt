@@ -1,5 +1,5 @@
 use Rattle.path.proofs.StoredLaws.{rings_split, rings_over}
-use Rattle.path.proofs.stored.SubpathsIterator.next.Goals as goal
+use Rattle.path.proofs.stored.Subpaths.next.Goals as goal
 
 pub returns-in_err-points-clause-steps : goal.returns-in_err-points-clause-steps
 returns-in_err-points-clause-steps c =
@@ -7,4 +7,4 @@ returns-in_err-points-clause-steps c =
     rw c.from_residual.ensures (none, none)
 
 pub returns-clause-steps : goal.returns-clause-steps
-returns-clause-steps c = rw c.new.ensures (rings_split c.args.self.now.words.now _ _ c.in_ok-points.ensures.cases)
+returns-clause-steps c = rw c.new.ensures.points (rings_split c.args.self.now.words.now _ _ c.in_ok-points.ensures.cases)
