@@ -2,6 +2,7 @@ ghost use Rattle.std.specs.Prelude.{◌≡◌, ◌+◌, ◌<◌, ◌≤◌, [], 
 ghost use Rattle.text.specs.declared.refusal.Refusal.TheVariants.{Unreadable, TooLarge};
 ghost use Rattle.lexer.specs.Reading.{cannot_read, above_limit, fine, read};
 ghost use Rattle.lexer.specs.Lexing.{from};
+ghost use Rattle.words.specs.Naming.{words_of};
 ghost use Rattle.text.specs.Limits.{Admits, place_in};
 ghost use Rattle.text.specs.Refusing.{passed_with, Checked};
 
@@ -9,7 +10,7 @@ use super::refusal::Refusal;
 use lexer::{Lexeme, lexeme_at};
 use tokens::Stage;
 use words::meaning::plain_token;
-use words::names::Names;
+use words::names::{NAMES, Names};
 
 // How many tokens a text may have, braces counted.
 pub const TOKENS: usize = 65536;
@@ -77,7 +78,11 @@ fn place(lexeme: Lexeme) -> Option<usize>
 }
 
 // The counts with one lexeme more; none where it is above a limit.
-fn admit<'a, S: Stage>(lexeme: Lexeme<'a>, counts: Counts, names: &mut Names<'a>) -> Option<Counts>
+fn admit<'a, S: Stage>(
+    lexeme: Lexeme<'a>,
+    counts: Counts,
+    names: &mut Names<'_, 'a>,
+) -> Option<Counts>
     ensures { Admits S.can result lexeme.entry counts names.old names.new }
 {
     let tokens = one_more(counts.tokens, TOKENS)?;
@@ -92,13 +97,16 @@ fn admit<'a, S: Stage>(lexeme: Lexeme<'a>, counts: Counts, names: &mut Names<'a>
     Some(Counts { tokens, depth })
 }
 
-// How many tokens a text that can be read has, braces counted, or the first that is above a limit.
-fn within_limits<S: Stage>(source: &[u8]) -> Result<usize, Refusal>
-    requires { cannot_read (from source.now 0) (length source.now) 0 ≡ fine }
+// How many tokens a text that can be read has, braces counted, or the first that is above a limit. No name is known yet.
+fn count_within_limits<'a, S: Stage>(
+    source: &'a [u8],
+    names: &mut Names<'_, 'a>,
+) -> Result<usize, Refusal>
+    requires readable { cannot_read (from source.now 0) (length source.now) 0 ≡ fine }
+    requires unnamed { words_of names.old ≡ [] }
     ensures { result ≡ passed_with TooLarge (length (from source.now 0)) (above_limit (from source.now 0) S.can 0 0 []) }
 {
     let mut at = 0;
-    let mut names = Names::new();
     let mut counts = Counts {
         tokens: 0,
         depth: 0,
@@ -108,9 +116,19 @@ fn within_limits<S: Stage>(source: &[u8]) -> Result<usize, Refusal>
         let Some(place) = place(lexeme) else {
             return Ok(counts.tokens);
         };
-        counts = admit::<S>(lexeme, counts, &mut names).ok_or(Refusal::TooLarge { place })?;
+        counts = admit::<S>(lexeme, counts, names).ok_or(Refusal::TooLarge { place })?;
         at = next;
     }
+}
+
+// The same, with a table of names on the call stack.
+fn within_limits<S: Stage>(source: &[u8]) -> Result<usize, Refusal>
+    requires { cannot_read (from source.now 0) (length source.now) 0 ≡ fine }
+    ensures { result ≡ passed_with TooLarge (length (from source.now 0)) (above_limit (from source.now 0) S.can 0 0 []) }
+{
+    let mut table = [&source[0..0]; NAMES];
+    let mut names = Names::new(&mut table);
+    count_within_limits::<S>(source, &mut names)
 }
 
 // Whether a text is short enough to be looked at further.

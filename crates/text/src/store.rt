@@ -10,7 +10,7 @@ use super::refusal::Refusal;
 use lexer::{Lexeme, lexeme_at};
 use tokens::{Stage, Token};
 use words::meaning::plain_token;
-use words::names::Names;
+use words::names::{NAMES, Names};
 
 // Where storing stands: the next byte of the text and the next word.
 #[derive(Clone, Copy)]
@@ -44,7 +44,7 @@ fn put(words: &mut [u64], at: usize, head: (u64, u64))
 // At most `depth` braces may be opened in it, which the text's limits hold.
 fn store_row<'a, S: Stage>(
     source: &'a [u8],
-    names: &mut Names<'a>,
+    names: &mut Names<'_, 'a>,
     words: &mut [u64],
     start: Progress,
     depth: u8,
@@ -93,7 +93,9 @@ fn store_all<S: Stage>(source: &[u8], words: &mut [u64]) -> usize
     ensures after { words.new ≡ all_stored (build (from source.now 0) [] [] []) ++ drop result words.old }
 {
     let start = Progress { at: 0, used: 0 };
-    store_row::<S>(source, &mut Names::new(), words, start, 32).used
+    let mut table = [&source[0..0]; NAMES];
+    let mut names = Names::new(&mut table);
+    store_row::<S>(source, &mut names, words, start, 32).used
 }
 
 // Stores a text's tokens at the front of the words, two words for each and none for a closing brace,

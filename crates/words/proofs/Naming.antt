@@ -1,9 +1,9 @@
 -- The table of names: looking a word up, and entering it.
-use Rattle.std.proofs.Common.{rules, ◌≡◌, ℕ, ◌<◌, ◌≤◌, cond, ltb, List, [], ◌∷◌, ◌++◌, length, Some, None, Option, sym, refl, ap, subst, ◌∙◌, inl, inr, arith, Bor, bytes_eq}
+use Rattle.std.proofs.Common.{rules, ◌≡◌, ℕ, ◌<◌, ◌≤◌, ◌+◌, cond, ltb, List, [], ◌∷◌, ◌++◌, length, take, set, Some, None, Option, sym, refl, ap, subst, ◌∙◌, inl, inr, arith, length-take, Bor, bytes_eq}
 use lib.ListN.{length-map}
 use Rattle.std.specs.List.{position_or_len}
 use Rattle.std.specs.Option.{MatchOption}
-use Rattle.std.proofs.lemmas.List.{map-append}
+use Rattle.std.proofs.lemmas.List.{map-append, take_more_set}
 use Rattle.std.proofs.lemmas.List.Recursion.{is_position_or_len}
 use Rattle.std.proofs.lemmas.Bool.{cases_Bool}
 use Rattle.std.proofs.lemmas.Slice.Eq.{slice_eq-Decides, compares_Decides}
@@ -28,14 +28,19 @@ told p n =
       | inr t ↦ let h : n ≤ p = grind (arith, nat_tests) in simp t h
     ]
 
--- where a word was found, or that it was not
-abbrev pub Looked : List (Bor (List ℕ)) → List ℕ → Option ℕ → Type 0
-Looked ns w r = MatchOption r (length ns ≤ place_of (words_in ns) w) (λ k. (k ≡ place_of (words_in ns) w) × (k < length ns))
+-- as many words as references
+pub many : (ns : List (Bor (List ℕ))) → length (words_in ns) ≡ length ns
+many ns = simp length-map refl
 
-pub found_place : (ns : List (Bor (List ℕ))) (w : List ℕ) (r : Option ℕ) → r ≡ cond (ltb (position_or_len (λ r. bytes_eq r.now w) ns) (length ns)) (Some (position_or_len (λ r. bytes_eq r.now w) ns)) None → Looked ns w r
+-- where a word was found, or that it was not
+abbrev pub Looked : List (List ℕ) → List ℕ → Option ℕ → Type 0
+Looked ws w r = MatchOption r (length ws ≤ place_of ws w) (λ k. (k ≡ place_of ws w) × (k < length ws))
+
+pub found_place : (ns : List (Bor (List ℕ))) (w : List ℕ) (r : Option ℕ) → r ≡ cond (ltb (position_or_len (λ r. bytes_eq r.now w) ns) (length ns)) (Some (position_or_len (λ r. bytes_eq r.now w) ns)) None → Looked (words_in ns) w r
 found_place ns w r e =
     let p = position_or_len (λ r. bytes_eq r.now w) ns in
-    subst (λ z. MatchOption r (length ns ≤ z) (λ k. (k ≡ z) × (k < length ns))) (sym (looked_up ns w)) (subst (λ z. MatchOption z (length ns ≤ p) (λ k. (k ≡ p) × (k < length ns))) (sym e) (told p (length ns)))
+    let found : MatchOption r (length ns ≤ p) (λ k. (k ≡ p) × (k < length ns)) = subst (λ z. MatchOption z (length ns ≤ p) (λ k. (k ≡ p) × (k < length ns))) (sym e) (told p (length ns)) in
+    subst (λ z. MatchOption r (length (words_in ns) ≤ z) (λ k. (k ≡ z) × (k < length (words_in ns)))) (sym (looked_up ns w)) (subst (λ n. MatchOption r (n ≤ p) (λ k. (k ≡ p) × (k < n))) (sym (many ns)) found)
 
 pub place_within : (ws : List (List ℕ)) (w : List ℕ) → place_of ws w ≤ length ws
 unfolding place_of
@@ -66,9 +71,11 @@ with_new (v ∷ vs) w h =
       | inr t ↦ let k : length vs ≤ place_of vs w = omega (arith, simp t at h) in simp t (ap (λ z. v ∷ z) (with_new vs w k))
     ]
 
--- as many words as references
-pub many : (ns : List (Bor (List ℕ))) → length (words_in ns) ≡ length ns
-many ns = simp length-map refl
+-- as many words as places that are used
+pub known_many : (ns : List (Bor (List ℕ))) (n : ℕ) → n ≤ length ns → length (words_in (take n ns)) ≡ n
+known_many ns n h = many (take n ns) ∙ length-take n ns ∙ (omega arith)
 
-pub entered_new : (ns : List (Bor (List ℕ))) (r : Bor (List ℕ)) → length ns ≤ place_of (words_in ns) r.now → words_in (ns ++ (r ∷ [])) ≡ with_word (words_in ns) r.now
-entered_new ns r h = map-append (λ z. z.now) ns (r ∷ []) ∙ sym (with_new (words_in ns) r.now (omega (arith, many ns)))
+pub entered_new : (ns : List (Bor (List ℕ))) (n : ℕ) (r : Bor (List ℕ)) → n < length ns → n ≤ place_of (words_in (take n ns)) r.now → words_in (take (n + 1) (set ns n r)) ≡ with_word (words_in (take n ns)) r.now
+entered_new ns n r l h =
+    let m = known_many ns n (omega arith) in
+    ap words_in (take_more_set ns n r l) ∙ map-append (λ z. z.now) (take n ns) (r ∷ []) ∙ sym (with_new (words_in (take n ns)) r.now (omega arith))

@@ -7,7 +7,7 @@ use lexer::{CAP, Lexeme};
 use tokens::{Stage, Token};
 
 // The token that a word is; none where it is above a limit.
-fn word_token<'a, S: Stage>(letters: &'a [u8], names: &mut Names<'a>) -> Option<Token<'a>>
+fn word_token<'a, S: Stage>(letters: &'a [u8], names: &mut Names<'_, 'a>) -> Option<Token<'a>>
     ensures { WordRead S.can result letters.now names.old names.new }
 {
     match operator_named(letters) {
@@ -17,7 +17,7 @@ fn word_token<'a, S: Stage>(letters: &'a [u8], names: &mut Names<'a>) -> Option<
 }
 
 // The token that a number or a word is; none where it is above a limit, and of any other lexeme.
-pub fn plain_token<'a, S: Stage>(lexeme: Lexeme<'a>, names: &mut Names<'a>) -> Option<Token<'a>>
+pub fn plain_token<'a, S: Stage>(lexeme: Lexeme<'a>, names: &mut Names<'_, 'a>) -> Option<Token<'a>>
     ensures { PlainRead S.can result lexeme.entry names.old names.new }
 {
     match lexeme {

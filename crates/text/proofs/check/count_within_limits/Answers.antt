@@ -5,7 +5,7 @@ use Rattle.lexer.specs.Lexing.{from}
 use Rattle.text.specs.Limits.{limits, Admits}
 use Rattle.text.specs.Refusing.{passed_with}
 use Rattle.text.proofs.Limiting.{next_piece, at_the_end}
-use Rattle.text.proofs.check.within_limits.Goals as goal
+use Rattle.text.proofs.check.count_within_limits.Goals as goal
 
 pub returns-in_default : goal.returns-in_default
 unfolding above_limit

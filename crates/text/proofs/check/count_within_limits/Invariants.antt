@@ -2,7 +2,7 @@ use Rattle.std.proofs.Common.{◌≡◌, ℕ, ◌+◌, ◌-◌, ◌≤◌, [], l
 use Rattle.lexer.specs.Reading.{cannot_read, above_limit, fine}
 use Rattle.lexer.specs.Lexing.{from}
 use Rattle.text.specs.Limits.{limits}
-use Rattle.text.proofs.check.within_limits.Given as goal
+use Rattle.text.proofs.check.count_within_limits.Given as goal
 
 -- what is left can be read, and decides with the counts so far
 abbrev pub invariant-loop-place : goal.invariant-loop-place
