@@ -1,5 +1,6 @@
 mod Beginning
 mod ClipLaws
+pub mod Ending
 mod KeepLaws
 mod Looking
 mod NameLaws

@@ -13,6 +13,7 @@ use Rattle.path.specs.Building.{rings_of, ring_of}
 use Rattle.machine.specs.Machine.{Value, amount, code, label, Manner, Binding, Frame, State, Went, on, ends, with_frames, with_manner, near_enough, points_in_all}
 use Rattle.machine.specs.Clips.{clips_in}
 use Rattle.machine.specs.Numbers.{fault_number, unsupported}
+use Rattle.machine.specs.Stage.{Outside}
 use Rattle.machine.specs.declared.event.Fault.{Fault}
 use Rattle.machine.specs.declared.event.Event.{Event}
 use Rattle.machine.specs.declared.event.Event.TheVariants.{On, Painted, Shown, Finished, Unsupported}
@@ -113,6 +114,15 @@ module _ {X : Type 0} {G : Ghosts X} {S : stage.Ghosts X} where
   abbrev pub after : Result Event Fault → Machine X G S → Path → Past → Went
   after (Ok e) m p t = after_event e m p t
   after (Err f) m p t = ends (fault_number f) (state m p t)
+
+-- a step says `Unsupported` only at an operator outside of its stage
+abbrev pub OnlyOutside : (ℕ → Bool) → Result Event Fault → Type 0
+OnlyOutside can (Ok On) = Unit {0}
+OnlyOutside can (Ok (Painted n)) = Unit {0}
+OnlyOutside can (Ok Shown) = Unit {0}
+OnlyOutside can (Ok Finished) = Unit {0}
+OnlyOutside can (Ok (Unsupported op)) = Outside can op
+OnlyOutside can (Err f) = Unit {0}
 
 abbrev pub tail : {A : Type 0} → List A → List A
 tail [] = []

@@ -1,7 +1,9 @@
 -- The written machine as far as a stage does its operators: at another one it ends with 9 and the operator's number, its token taken. On tokens without such operators it is the whole machine (StagesAreWhole). Cited by the contracts of steps and runs. Assumes nothing: these are definitions.
-use Rattle.std.specs.Prelude.{◌≡◌, ℕ, zero, suc, Bool, cond, List, [], ◌∷◌}
+use Rattle.std.specs.Prelude.{◌≡◌, ℕ, zero, suc, Bool, false, cond, List, [], ◌∷◌}
 use Rattle.tokens.specs.Token.{Token, number, does, name, quoted, body, Tokens, none, more, Operator, number_of, AllInRange}
+use Rattle.tokens.specs.Stored.{operator_of}
 use Rattle.tokens.specs.Stage.{stage, whole}
+use Rattle.tokens.specs.declared.operator.Operator as code_operator
 use Rattle.machine.specs.Machine.{Frame, State, Went, ends, with_frames, operate, run_token, advance, step, go_on, at_end, run, begin}
 use Rattle.machine.specs.Numbers.{unsupported}
 
@@ -43,6 +45,14 @@ WholeIsWhole = (n : ℕ) (s : State) → run_of whole n s ≡ run n s
 -- and each step of it is a step of the whole machine
 abbrev pub StepIsWhole : Type 0
 StepIsWhole = (s : State) → step_of whole s ≡ step s
+
+-- an operator outside of a stage: one that it can't do
+abbrev pub Outside : (ℕ → Bool) → code_operator.Operator → Type 0
+Outside can op = can (number_of (operator_of op)) ≡ false
+
+-- none is outside of the stage of all operators
+abbrev pub NoneOutside : Type 0
+NoneOutside = (op : code_operator.Operator) → ¬ Outside whole op
 
 -- the stage that was first
 abbrev pub step_in_stage : State → Went

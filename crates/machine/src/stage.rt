@@ -1,6 +1,6 @@
 ghost use Rattle.std.specs.Prelude.{◌≡◌, ℕ, ◌≤◌, true};
 ghost use Rattle.std.proofs.Common.{rules};
-ghost use Rattle.machine.specs.Stage.{StageIsWhole, StagesAreWhole, StepIsWhole, WholeIsWhole};
+ghost use Rattle.machine.specs.Stage.{NoneOutside, StageIsWhole, StagesAreWhole, StepIsWhole, WholeIsWhole};
 
 use tokens::{Stage, Thin, Whole};
 
@@ -42,6 +42,13 @@ pub fn stages_are_whole() -> u8
 pub fn whole_is_whole() -> u8
     ensures runs { WholeIsWhole }
     ensures steps { StepIsWhole }
+{
+    0
+}
+
+// and no operator is outside of it: what says that `Unsupported` comes only there says here that it never does
+pub fn none_outside() -> u8
+    ensures { NoneOutside }
 {
     0
 }

@@ -1,9 +1,15 @@
 -- A step of a stage of the written machine, case by case, as the code takes it.
-use Rattle.std.proofs.Common.{◌≡◌, ℕ, suc, ◌-◌, ◌<◌, Bool, List, [], ◌∷◌, sym, ap, ◌∙◌, arith}
+use Rattle.std.proofs.Common.{◌≡◌, ℕ, suc, ◌-◌, ◌<◌, Bool, List, [], ◌∷◌, Result, sym, ap, ◌∙◌, arith}
 use Rattle.tokens.specs.Token.{Token, Tokens, none, more}
 use Rattle.machine.specs.Machine.{State, Frame, Went, on, ends, with_frames, advance}
 use Rattle.machine.specs.Stage.{run_token_of, advance_of, step_by_frame, step_of}
-use Rattle.machine.specs.Abstraction.{topped, tail, with_top, without_top}
+use Rattle.machine.specs.Abstraction.{Past, state, after, topped, tail, with_top, without_top}
+use Rattle.machine.specs.declared.event.Fault.{Fault}
+use Rattle.machine.specs.declared.event.Event.{Event}
+use Rattle.machine.specs.declared.stage.Clipping.{Ghosts}
+use Rattle.machine.specs.declared.state.Machine.{Machine}
+use Rattle.path.specs.declared.builder.Path.{Path}
+use Rattle.tokens.specs.declared.stage.Stage as stage
 
 module _ (can : ℕ → Bool) where
   pub finished_there : (s : State) → s.frames ≡ [] → ends 0 s ≡ step_of can s
@@ -30,3 +36,8 @@ module _ (can : ℕ → Bool) where
   unfolding step_by_frame advance_of
   takes_one s f fs t ts e is =
       ap (λ x. run_token_of can (with_frames s (topped x (record { rest = ts; again = f.again; whole = f.whole }))) t) e ∙ ap (advance_of can s f fs) is ∙ sym (ap (step_by_frame can s) e)
+
+  -- an answer is that of a step from a state of the machine, whatever was painted and shown
+  module _ {X : Type 0} {G : Ghosts X} {S : stage.Ghosts X} where
+    abbrev pub Steps : Result Event Fault → Machine X G S → Path → Machine X G S → Path → Type 0
+    Steps r m p before path = (t : Past) → after r m p t ≡ step_of can (state before path t)

@@ -22,7 +22,9 @@ pub(crate) fn clip<'s, 'a, S: Clipping>(
     requires { S.can 14 ≡ true }
     ensures { (t : Past) → after result m.new path.new t ≡ operate (state m.old path.old t) clips_by }
 {
-    m.append_clip(path)?;
+    let Ok(()) = m.append_clip(path) else {
+        return Err(Fault::LimitExceeded);
+    };
     path.clear();
     Ok(Event::On)
 }

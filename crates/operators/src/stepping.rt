@@ -1,6 +1,6 @@
 ghost use Rattle.std.specs.Prelude.{◌≡◌};
 ghost use Rattle.machine.specs.Stage.{step_of};
-ghost use Rattle.machine.specs.Abstraction.{Past, state, after};
+ghost use Rattle.machine.specs.Abstraction.{Past, state, after, OnlyOutside};
 
 use crate::calling::call_name;
 use crate::perform::operate;
@@ -15,7 +15,8 @@ pub fn step<'s, 'a, S: Clipping>(
     m: &mut Machine<'s, 'a, S>,
     path: &mut Path<'_>,
 ) -> Result<Event, Fault>
-    ensures { (t : Past) → after result m.new path.new t ≡ step_of S.can (state m.old path.old t) }
+    ensures steps { (t : Past) → after result m.new path.new t ≡ step_of S.can (state m.old path.old t) }
+    ensures unsupported { OnlyOutside S.can result }
 {
     let Some(f) = m.top() else {
         return Ok(Event::Finished);

@@ -16,8 +16,8 @@ TextRunsWhole can =
     (bs : List ℕ) (ts : Tokens) (n : ℕ) → read can bs ≡ tokens ts →
     (run_of can n (begin (decode (all_stored ts))) ≡ run n (begin ts)) × (run n (begin (decode (all_stored ts))) ≡ run n (begin ts))
 
--- a sink that always wants more stops no run and is told all of it: it ends as the written run does, and has shown no more pages than it had steps
+-- a sink that still wants more after a run, as one that always does, has stopped none and was told all of it: it ended as the written run does, and has shown no more pages than it had steps
 abbrev pub ToldToTheEnd : {V : Type 0} → (Paint → V → V) → (V → V) → Type 0
 ToldToTheEnd {V} paint page =
-    (runs : ℕ → State → Went) (r : Ending) (n : ℕ) (s : State) (v w : V) → Driven runs paint page (λ x. true) r n s v w →
+    (wants : V → Bool) (runs : ℕ → State → Went) (r : Ending) (n : ℕ) (s : State) (v w : V) → Driven runs paint page wants r n s v w → wants w ≡ true →
     (is_stopped r ≡ false) × (ending_number r ≡ end_of (runs n s)) × (w ≡ told paint page (past_of (runs n s)) v) × (length (state_of (runs n s)).pages ≤ n)

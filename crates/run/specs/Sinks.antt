@@ -5,6 +5,7 @@ use Rattle.tokens.specs.Stored.{operator_of}
 use Rattle.machine.specs.Machine.{State, Went}
 use Rattle.machine.specs.Laws.{state_of, end_of}
 use Rattle.machine.specs.Numbers.{fault_number, unsupported}
+use Rattle.machine.specs.Stage.{Outside}
 use Rattle.machine.specs.Abstraction.{Past}
 use Rattle.run.specs.declared.drive.Ending.{Ending}
 use Rattle.run.specs.declared.drive.Ending.TheVariants.{Finished, Failed, Unsupported, Stopped}
@@ -21,6 +22,13 @@ is_stopped Finished = false
 is_stopped (Failed f) = false
 is_stopped (Unsupported op) = false
 is_stopped Stopped = true
+
+-- a run ends as `Unsupported` only at an operator outside of its stage
+abbrev pub EndsOnlyOutside : (ℕ → Bool) → Ending → Type 0
+EndsOnlyOutside can Finished = Unit {0}
+EndsOnlyOutside can (Failed f) = Unit {0}
+EndsOnlyOutside can (Unsupported op) = Outside can op
+EndsOnlyOutside can Stopped = Unit {0}
 
 -- where a run has come to, as what was painted and shown
 abbrev pub past_of : Went → Past

@@ -3,7 +3,7 @@ ghost use Rattle.tokens.specs.Stored.{decode};
 ghost use Rattle.machine.specs.Machine.{begin};
 ghost use Rattle.machine.specs.Stage.{run_of};
 ghost use Rattle.machine.specs.Laws.{state_of, end_of};
-ghost use Rattle.run.specs.Sinks.{ending_number, is_stopped};
+ghost use Rattle.run.specs.Sinks.{EndsOnlyOutside, ending_number, is_stopped};
 
 use crate::drive::{Ending, Sink};
 use crate::job::run_job;
@@ -55,6 +55,7 @@ pub fn count_pages<S: Clipping>(
     ensures words { words.new ≡ replicate (length words.old) 0 }
     ensures clips { clips.new ≡ replicate (length clips.old) 0 }
     ensures whole { is_stopped result.ending ≡ false }
+    ensures unsupported { EndsOnlyOutside S.can result.ending }
     ensures ended { ending_number result.ending ≡ end_of (run_of S.can steps (begin (decode tokens.now))) }
 {
     let mut count = PageCount { pages: 0 };

@@ -6,7 +6,7 @@ ghost use Rattle.path.specs.Stored.{rings_in};
 ghost use Rattle.machine.specs.Abstraction.{no_past, state, paint_in};
 ghost use Rattle.machine.specs.Laws.{state_of};
 ghost use Rattle.machine.specs.Stage.{run_of};
-ghost use Rattle.run.specs.Sinks.{Driven, ending_number, is_stopped, past_of};
+ghost use Rattle.run.specs.Sinks.{Driven, EndsOnlyOutside, ending_number, is_stopped, past_of};
 
 use machine::event::{Event, Fault};
 use machine::stage::Clipping;
@@ -74,6 +74,7 @@ pub fn drive<'s, 'a, S: Clipping, E: Sink>(
     ensures driven { Driven (run_of S.can) E.Sink.paint E.Sink.page E.Sink.more result steps (state m.old path.old no_past) (E.Sink.view sink.old) (E.Sink.view sink.new) }
     ensures after { is_stopped result ≡ false → state m.new path.new (past_of (run_of S.can steps (state m.old path.old no_past))) ≡ state_of (run_of S.can steps (state m.old path.old no_past)) }
     ensures lent { E.Sink.lent sink.new ≡ E.Sink.lent sink.old }
+    ensures unsupported { EndsOnlyOutside S.can result }
 {
     for i in 0..steps {
         let event = match step(m, path) {

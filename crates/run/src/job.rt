@@ -2,7 +2,7 @@ ghost use Rattle.std.specs.Prelude.{◌≡◌, ◌≤◌, length, replicate};
 ghost use Rattle.tokens.specs.Stored.{decode};
 ghost use Rattle.machine.specs.Machine.{begin};
 ghost use Rattle.machine.specs.Stage.{run_of};
-ghost use Rattle.run.specs.Sinks.{Driven};
+ghost use Rattle.run.specs.Sinks.{Driven, EndsOnlyOutside};
 
 use crate::drive::{Ending, Sink, drive};
 use machine::stage::Clipping;
@@ -28,6 +28,7 @@ fn run_over<S: Clipping, E: Sink>(
     requires { (3072 ≤ length words.old) × (S.clip_room ≤ length clips.old) }
     ensures driven { Driven (run_of S.can) E.Sink.paint E.Sink.page E.Sink.more result steps (begin (decode tokens.now)) (E.Sink.view sink.old) (E.Sink.view sink.new) }
     ensures lent { E.Sink.lent sink.new ≡ E.Sink.lent sink.old }
+    ensures unsupported { EndsOnlyOutside S.can result }
 {
     let mut values = Stack::new(Value::Number(0));
     let mut frames = Stack::new(Frame {
@@ -60,6 +61,7 @@ pub fn run_job<S: Clipping, E: Sink>(
     ensures words { words.new ≡ replicate (length words.old) 0 }
     ensures clips { clips.new ≡ replicate (length clips.old) 0 }
     ensures lent { E.Sink.lent sink.new ≡ E.Sink.lent sink.old }
+    ensures unsupported { EndsOnlyOutside S.can result }
 {
     let ending = run_over::<S, E>(tokens, words, clips, sink, steps);
     clear_words(words);

@@ -11,7 +11,7 @@ pub fn text_runs_whole<S: Stage>() -> u8
     0
 }
 
-// A sink that always wants more is told all of a run.
+// A sink that still wants more after a run, as one that always does, was told all of it.
 pub fn told_to_the_end<E: Sink>() -> u8
     ensures { ToldToTheEnd E.Sink.paint E.Sink.page }
 {

@@ -7,6 +7,7 @@
 
 ghost use Rattle.std.specs.Prelude.{◌≤◌};
 
+mod counting;
 mod methods;
 
 // At most `N` items.

@@ -1,4 +1,4 @@
-ghost use Rattle.std.specs.Prelude.{◌≡◌, ◌<◌, [], ◌∷◌, length, drop, slice_get, slice_set, ◌==◌, IsOk, OnOk, OnErr, ◌↔◌};
+ghost use Rattle.std.specs.Prelude.{◌≡◌, ◌<◌, [], ◌∷◌, length, drop, slice_get, slice_set, IsOk, OnOk, OnErr, ◌↔◌};
 ghost use Rattle.stack.specs.Contents.{top_down};
 
 use crate::{Full, Stack};
@@ -12,12 +12,6 @@ impl<T: Copy + Drop, const N: usize> Stack<T, N> {
             items: [blank; N],
             len: 0,
         }
-    }
-
-    pub fn is_empty(&self) -> bool
-        ensures { result ≡ (length (top_down self.now) == 0) }
-    {
-        self.len == 0
     }
 
     // One item more, on the top. There must be room.

@@ -53,5 +53,6 @@ returns g c =
       words = c.run_job-ending.ensures.words;
       clips = c.run_job-ending.ensures.clips;
       whole = runs;
+      unsupported = c.run_job-ending.ensures.unsupported;
       ended = d.ended runs;
     }

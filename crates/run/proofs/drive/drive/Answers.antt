@@ -1,9 +1,9 @@
-use Rattle.std.proofs.Common.{◌+◌, sym, refl, ap, ◌∙◌, subst, arith}
+use Rattle.std.proofs.Common.{◌+◌, Ok, sym, refl, ap, ◌∙◌, subst, arith}
 use Rattle.path.specs.Extent.{ExtentOf}
 use Rattle.path.specs.Stored.{rings_in}
 use Rattle.tokens.specs.Stored.{operator_of}
 use Rattle.machine.specs.Numbers.{fault_number, unsupported}
-use Rattle.machine.specs.Abstraction.{no_past, with_painted, with_page, state, thing_of, after_event}
+use Rattle.machine.specs.Abstraction.{no_past, with_painted, with_page, state, thing_of, after_event, OnlyOutside}
 use Rattle.machine.specs.declared.event.Fault.TheVariants.{StepsUsedUp}
 use Rattle.run.specs.declared.drive.Ending.TheVariants.{Finished, Failed, Unsupported, Stopped}
 use Rattle.run.proofs.Driving.{never, run_all, run_on, told_none, told_painted, told_page, closes, rests, same_paint, page_more, closed, rested, same_end}
@@ -19,11 +19,12 @@ returns-in-Finished g c =
     let t = inv.0 in
     let m = c.step.new.m in
     let p = c.step.new.path in
-    let went = ap (λ e. after_event e m p t) (sym c.in-Finished.is) ∙ c.in-Ok.ensures t in
+    let went = ap (λ e. after_event e m p t) (sym c.in-Finished.is) ∙ c.in-Ok.ensures.steps t in
     record {
       driven = closes g.E.Sink.paint g.E.Sink.page g.S.Stage.can g.E.Sink.more Finished c.args.steps c.loop-i.i _ (state m p t) _ _ _ refl (omega arith) went inv.1 inv.2 inv.3;
       after = λ _. same_end m p t _ (closed g.S.Stage.can c.args.steps c.loop-i.i 0 _ (state m p t) _ (omega arith) went inv.1);
       lent = inv.4;
+      unsupported = tt;
     }
 
 pub returns-in-Unsupported : goal.returns-in-Unsupported
@@ -33,11 +34,12 @@ returns-in-Unsupported g c =
     let m = c.step.new.m in
     let p = c.step.new.path in
     let op = c.in-Unsupported.op in
-    let went = ap (λ e. after_event e m p t) (sym c.in-Unsupported.is) ∙ c.in-Ok.ensures t in
+    let went = ap (λ e. after_event e m p t) (sym c.in-Unsupported.is) ∙ c.in-Ok.ensures.steps t in
     record {
       driven = closes g.E.Sink.paint g.E.Sink.page g.S.Stage.can g.E.Sink.more (Unsupported op) c.args.steps c.loop-i.i _ (state m p t) _ _ _ refl (omega arith) went inv.1 inv.2 inv.3;
       after = λ _. same_end m p t _ (closed g.S.Stage.can c.args.steps c.loop-i.i (unsupported (operator_of op)) _ (state m p t) _ (omega arith) went inv.1);
       lent = inv.4;
+      unsupported = subst (λ e. OnlyOutside g.S.Stage.can (Ok e)) c.in-Unsupported.is c.in-Ok.ensures.unsupported;
     }
 
 pub returns-in-Err : goal.returns-in-Err
@@ -47,9 +49,10 @@ returns-in-Err g c =
     let m = c.step.new.m in
     let p = c.step.new.path in
     record {
-      driven = closes g.E.Sink.paint g.E.Sink.page g.S.Stage.can g.E.Sink.more (Failed c.in-Err.fault) c.args.steps c.loop-i.i _ (state m p t) _ _ _ refl (omega arith) (c.in-Err.ensures t) inv.1 inv.2 inv.3;
-      after = λ _. same_end m p t _ (closed g.S.Stage.can c.args.steps c.loop-i.i (fault_number c.in-Err.fault) _ (state m p t) _ (omega arith) (c.in-Err.ensures t) inv.1);
+      driven = closes g.E.Sink.paint g.E.Sink.page g.S.Stage.can g.E.Sink.more (Failed c.in-Err.fault) c.args.steps c.loop-i.i _ (state m p t) _ _ _ refl (omega arith) (c.in-Err.ensures.steps t) inv.1 inv.2 inv.3;
+      after = λ _. same_end m p t _ (closed g.S.Stage.can c.args.steps c.loop-i.i (fault_number c.in-Err.fault) _ (state m p t) _ (omega arith) (c.in-Err.ensures.steps t) inv.1);
       lent = inv.4;
+      unsupported = tt;
     }
 
 -- a sink that wants no more has seen the page that was shown
@@ -61,11 +64,12 @@ returns-then-not-shown g c =
     let p = c.step.new.path in
     let i = c.loop-i.i in
     let last = state m p (with_page t) in
-    let went = ap (λ e. after_event e m p t) (sym c.in-Shown.is) ∙ c.in-Ok.ensures t in
+    let went = ap (λ e. after_event e m p t) (sym c.in-Shown.is) ∙ c.in-Ok.ensures.steps t in
     record {
       driven = rests g.E.Sink.paint g.E.Sink.page g.S.Stage.can g.E.Sink.more Stopped c.args.steps (i + 1) last _ _ _ (omega arith) (run_on g.S.Stage.can i _ last _ went inv.1) (c.shown.ensures.seen ∙ told_page g.E.Sink.paint g.E.Sink.page t _ _ inv.2) (page_more t i inv.3) (λ h. never h refl) (λ _. sym c.shown.ensures.value ∙ c.if-not-shown.true);
       after = λ h. never h refl;
       lent = c.shown.ensures.lent ∙ inv.4;
+      unsupported = tt;
     }
 
 -- a step that paints or shows has one thing or one page more
@@ -77,7 +81,7 @@ loop-i-preserved g c =
     let p = c.step.new.path in
     let before = state c.loop-i.m c.loop-i.path t in
     let i = c.loop-i.i in
-    let went = c.in-Ok.ensures t in
+    let went = c.in-Ok.ensures.steps t in
     elim c.match-event.branch [
       | in-On w ↦ (
         t,
@@ -114,6 +118,7 @@ returns-then-is_finished g c =
       driven = rests g.E.Sink.paint g.E.Sink.page g.S.Stage.can g.E.Sink.more Finished c.args.steps c.loop-i.i last _ _ _ (omega arith) inv.1 inv.2 inv.3 (λ _. (omega arith, c.if-is_finished.ensures last)) (λ h. never refl h);
       after = λ _. same_end c.loop-i.m c.loop-i.path inv.0 _ (rested g.S.Stage.can c.args.steps c.loop-i.i last _ (omega arith) inv.1);
       lent = inv.4;
+      unsupported = tt;
     }
 
 pub returns-else-is_finished : goal.returns-else-is_finished
@@ -124,4 +129,5 @@ returns-else-is_finished g c =
       driven = rests g.E.Sink.paint g.E.Sink.page g.S.Stage.can g.E.Sink.more (Failed StepsUsedUp) c.args.steps c.loop-i.i last _ _ _ (omega arith) inv.1 inv.2 inv.3 (λ _. (omega arith, c.if-is_finished.ensures last)) (λ h. never refl h);
       after = λ _. same_end c.loop-i.m c.loop-i.path inv.0 _ (rested g.S.Stage.can c.args.steps c.loop-i.i last _ (omega arith) inv.1);
       lent = inv.4;
+      unsupported = tt;
     }
