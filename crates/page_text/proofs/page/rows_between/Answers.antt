@@ -1,4 +1,4 @@
-use Rattle.std.proofs.Common.{◌≡◌, ℕ, ◌+◌, ◌-◌, ◌*◌, ◌≤◌, [], ◌++◌, length, get_or, drop, Ok, Err, sym, refl, ap, ◌∙◌, subst, zero-mul, arith}
+use Rattle.std.proofs.Common.{◌≡◌, ℕ, ◌+◌, ◌-◌, ◌*◌, ◌≤◌, [], ◌++◌, false, length, get_or, drop, is_ok, Ok, Err, Result, sym, refl, ap, ◌∙◌, subst, zero-mul, arith}
 use Rattle.std.proofs.lemmas.Result.{IfOk-at_ok, err_from_is_err_and}
 use Rattle.raster.specs.Coverage.{rows}
 use Rattle.session.specs.Jobs.{Job, shown}
@@ -64,20 +64,22 @@ more c end is j h s w =
 
 pub loop-at-preserved : goal.loop-at-preserved
 loop-at-preserved c =
-    let here = (goal.at.loop-at-preserved c).After-put_band in (
+    let here = (goal.at.loop-at-preserved c).After-put_band in
+    let is : here.put_band.result ≡ Ok c.in_ok-at.at = grind arith in (
       omega arith,
       omega arith,
-      IfOk-at_ok (λ end. end ≤ length c.put_band.new.out) c.in_ok-at.was c.put_band.ensures.within,
-      λ j h s. let after = serves here j h s in (after.0, after.1, more here _ c.in_ok-at.was j h s),
+      IfOk-at_ok (λ end. end ≤ length c.put_band.new.out) is c.put_band.ensures.within,
+      λ j h s. let after = serves here j h s in (after.0, after.1, more here _ is j h s),
     )
 
 pub returns-then-y-to-clause-right : goal.returns-then-y-to-clause-right
 returns-then-y-to-clause-right c =
     let here = (goal.at.returns-then-y-to-clause-right c).After-put_band in
+    let is : here.put_band.result ≡ Ok c.in_ok-at.at = grind arith in
     λ j h s there le tall w room.
     let after = serves here j h s in (
       refl,
-      (more here _ c.in_ok-at.was j h s w).1
+      (more here _ is j h s w).1
           ∙ ap (λ z. rows (get_or (shown j) c.args.rows.page []) j.wide c.args.rows.from (z - c.args.rows.from) ++ drop ((z - c.args.rows.from) * j.wide) c.args.out.now) c.if-y-to.true,
       after.0,
       after.1,
@@ -86,7 +88,8 @@ returns-then-y-to-clause-right c =
 pub returns-then-y-to-clause-answer : goal.returns-then-y-to-clause-answer
 returns-then-y-to-clause-answer c =
     let here = (goal.at.returns-then-y-to-clause-answer c).After-put_band in
-    λ j h s le w room. let p = placed_here here _ c.in_ok-at.was j h s w in sym (outcome_whole j c.args.rows.page c.args.rows.to p.0 (omega (arith, p.1)))
+    let is : here.put_band.result ≡ Ok c.in_ok-at.at = grind arith in
+    λ j h s le w room. let p = placed_here here _ is j h s w in sym (outcome_whole j c.args.rows.page c.args.rows.to p.0 (omega (arith, p.1)))
 
 pub returns-then-y-to-clause-serves : goal.returns-then-y-to-clause-serves
 returns-then-y-to-clause-serves c = serves (goal.at.returns-then-y-to-clause-serves c).After-put_band
@@ -96,16 +99,22 @@ failed : (c : After-put_band) (m : Missing) → c.put_band.result ≡ Err m → 
     Placed (Err m) j c.args.rows.page c.loop-at.y c.min-n.result c.loop-at.at c.loop-at.out c.put_band.new.out
 failed c m is j h s w = subst (λ z. Placed z j c.args.rows.page c.loop-at.y c.min-n.result c.loop-at.at c.loop-at.out c.put_band.new.out) is (placed c j h s w)
 
+missed : (r : Result ℕ Missing) → is_ok r ≡ false → (m : Missing) × (r ≡ Err m)
+missed (Ok end) e = cc
+missed (Err m) e = (m, refl)
+
 pub returns-in_err-at-clause-right : goal.returns-in_err-at-clause-right
 returns-in_err-at-clause-right c =
     let here = (goal.at.returns-in_err-at-clause-right c).After-put_band in
-    λ j h s there le tall w room. absurd (none_missing _ j _ _ _ _ c.args.rows.to _ _ (ends here) there tall (failed here _ c.in_err-at.was j h s w))
+    let m = missed here.put_band.result (grind arith) in
+    λ j h s there le tall w room. absurd (none_missing _ j _ _ _ _ c.args.rows.to _ _ (ends here) there tall (failed here _ m.1 j h s w))
 
 pub returns-in_err-at-clause-answer : goal.returns-in_err-at-clause-answer
 returns-in_err-at-clause-answer c =
     let here = (goal.at.returns-in_err-at-clause-answer c).After-put_band in
+    let is : here.put_band.result ≡ Err c.in_err-at.field-0.0 = grind arith in
     let q = err_from_is_err_and c.from_residual.result c.from_residual.ensures.1 in
-    λ j h s le w room. q.1 ∙ ap Err q.2 ∙ outcome_missing _ j _ _ _ _ c.args.rows.to _ _ (ends here) (failed here _ c.in_err-at.was j h s w)
+    λ j h s le w room. q.1 ∙ ap Err q.2 ∙ outcome_missing _ j _ _ _ _ c.args.rows.to _ _ (ends here) (failed here _ is j h s w)
 
 pub returns-in_err-at-clause-serves : goal.returns-in_err-at-clause-serves
 returns-in_err-at-clause-serves c = serves (goal.at.returns-in_err-at-clause-serves c).After-put_band
