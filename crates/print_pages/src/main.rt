@@ -10,7 +10,7 @@ mod pages;
 use failure::{Failure, end, read_job};
 use memory::{bytes_for, numbers_for};
 use options::{Options, command_line};
-use pages::print_pages;
+use pages::{print_pages, print_refusal};
 use session::session::open;
 use std::io;
 use std::process::ExitCode;
@@ -38,10 +38,7 @@ fn print_job(rt: &HostRuntime, source: &[u8], o: &Options) -> Result<(), Failure
     let mut bytes = bytes_for(rt.alloc(), o.order);
     match open(source, o.order, words.as_mut_slice(), bytes.as_mut_slice()) {
         Ok(mut session) => print_pages(rt, &mut session, o),
-        Err(refused) => {
-            println!(rt; "{}", refused.why)?;
-            Ok(())
-        }
+        Err(refused) => print_refusal(rt, refused.why.number(), refused.why.place()),
     }
 }
 

@@ -2,7 +2,7 @@ ghost use Rattle.std.specs.Prelude.{◌≤◌};
 
 use super::options::{Format, Options, Span};
 use failure::Failure;
-use page_text::lines::{last_line, pgm_head};
+use page_text::lines::{last_line, pgm_head, refusal_line};
 use page_text::page::{Missing, Rows, rows_between};
 use page_text::row::push_row;
 use session::question::{Question, Reason, Reply};
@@ -13,6 +13,13 @@ const CHUNK: usize = 1_048_576;
 
 // A band of a page that was shown is never refused: that is proved of the session.
 const NO_ROWS: &str = "rows of a shown page were refused: please report this";
+
+// Says by which number and at which place a job or a question is refused.
+pub fn print_refusal(rt: &HostRuntime, number: u8, place: usize) -> Result<(), Failure> {
+    let line = refusal_line(rt.alloc(), number, place)?;
+    rt.write_all(line.as_bytes())?;
+    Ok(())
+}
 
 // Rows as they are, or each as a line of text.
 fn print_rows(rt: &HostRuntime, rows: &[u8], width: usize, format: Format) -> Result<(), Failure> {
@@ -136,8 +143,7 @@ pub fn print_pages(rt: &HostRuntime, s: &mut Session<'_>, o: &Options) -> Result
     let Span { from, to } = o.rows.unwrap_or(whole);
     let rows = Rows { page, from, to };
     if let Some(reason) = refused(s, rows, o) {
-        println!(rt; "{reason}")?;
-        return Ok(());
+        return print_refusal(rt, reason.number(), reason.place());
     }
     print_page(rt, s, rows, o)?;
     print_end(rt, pages, ending, o.format)

@@ -51,14 +51,14 @@ rows_answer room e t p w y n w2 y2 n2 ps qs bs cs same i j k h f painted =
     (ap (λ z. dots (take z cs)) m ∙ ap (λ z. dots (take (n * w) z)) b ∙ ap dots (take_at (rows page w y n) (drop (n * w) bs) (n * w) (length-rows page w y n)) ∙ sym a, b ∙ dots_put _ page w y n bs a)
 
 -- whether there is room for a path and for clips
-abbrev room : ℕ → ℕ → Bool
+abbrev pub room : ℕ → ℕ → Bool
 room path clips = leb path_room path && leb clip_room clips
 
 has_room : (path clips : ℕ) → 3072 ≤ path → 3072 ≤ clips → room path clips ≡ true
 unfolding path_room clip_room
 has_room path clips h k = and_from _ _ (le-leb 3072 path h) (le-leb 3072 clips k)
 
-cramped : (path clips : ℕ) → (path < 3072) ⊎ (clips < 3072) → room path clips ≡ false
+pub cramped : (path clips : ℕ) → (path < 3072) ⊎ (clips < 3072) → room path clips ≡ false
 unfolding path_room clip_room
 cramped path clips (inl h) = and_left _ _ (lt-leb 3072 path h)
 cramped path clips (inr h) = and_right _ _ (lt-leb 3072 clips h)

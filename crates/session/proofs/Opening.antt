@@ -54,7 +54,7 @@ unfolding opened_by
 few_words o (reading.Read.refused k p) n h g l = absurd h
 few_words o (tokens ts) n h g l = let r = rooms in let t : leb (words_asked o ts) o.words_lent ≡ false = lt-leb _ _ (omega arith) in simp (g, t)
 
-few_bytes : (o : Order) (d : Read) (n : ℕ) → Checked (Ok n) d → good_size o.steps o.wide o.tall ≡ true → 2 * n + 6148 + o.kept ≤ o.words_lent → o.bytes_lent < 64 * o.wide → opened_by o d ≡ turned_away 3 1
+pub few_bytes : (o : Order) (d : Read) (n : ℕ) → Checked (Ok n) d → good_size o.steps o.wide o.tall ≡ true → 2 * n + 6148 + o.kept ≤ o.words_lent → o.bytes_lent < 64 * o.wide → opened_by o d ≡ turned_away 3 1
 unfolding opened_by
 few_bytes o (reading.Read.refused k p) n h g l m = absurd h
 few_bytes o (tokens ts) n h g l m =
@@ -70,7 +70,7 @@ narrow o g =
     let width = (and_parts (leb 1 o.wide && leb o.wide 8192) _ sides).0 in
     leb-true o.wide 8192 (and_parts (leb 1 o.wide) _ width).1
 
-is_admitted : (o : Order) (d : Read) (n : ℕ) → Checked (Ok n) d → good_size o.steps o.wide o.tall ≡ true → 2 * n + 6148 + o.kept ≤ o.words_lent → 64 * o.wide ≤ o.bytes_lent → Admitted (Ok tt) o d
+pub is_admitted : (o : Order) (d : Read) (n : ℕ) → Checked (Ok n) d → good_size o.steps o.wide o.tall ≡ true → 2 * n + 6148 + o.kept ≤ o.words_lent → 64 * o.wide ≤ o.bytes_lent → Admitted (Ok tt) o d
 unfolding opened_by
 is_admitted o (reading.Read.refused k p) n h g l m = absurd h
 is_admitted o (tokens ts) n h g l m =
